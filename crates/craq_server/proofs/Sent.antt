@@ -59,7 +59,7 @@ use Rattle.craq_server.specs.contracts.peer_streams.PeerStreams as PeerStreams
 use Rattle.craq_server.specs.contracts.peer_listeners.PeerListener as PeerListener
 use Rattle.craq_server.proofs.arrivals.Arrivals.TheSendSync as arrivals
 use Rattle.craq_server.proofs.greeters.Greeter.TheSendSync as greeter
-use Rattle.craq_server.proofs.incoming_links.IncomingLinks.TheSendSync as incoming
+use Rattle.craq_server.proofs.received_links.ReceivedLinks.TheSendSync as incoming
 use Rattle.craq_server.proofs.link_bells.LinkBell.TheSendSync as link_bell
 use Rattle.craq_server.proofs.pending_connections.PendingConnections.TheSendSync as pending_connections
 

@@ -21,12 +21,12 @@ pub(crate) struct Arrivals {
 struct Arrived {
     is_ready: bool,
     // By their ids, none for the server itself.
-    links: Vec<Arrival>,
+    links: Vec<LinkArrival>,
 }
 
 // The link from one server.
 #[derive(Clone, Copy)]
-enum Arrival {
+enum LinkArrival {
     // It wasn't accepted yet.
     Away,
     // It was, at this start of the other server.
@@ -51,7 +51,7 @@ impl Arrivals {
     pub(crate) fn new(alloc: Global, servers: u8) -> Result<Arrivals, AllocError> {
         let mut links = Vec::new(alloc);
         for _ in 0..servers {
-            links.push(Arrival::Away)?;
+            links.push(LinkArrival::Away)?;
         }
         let is_ready = false;
         Ok(Arrivals {
@@ -62,13 +62,13 @@ impl Arrivals {
 
     /// The link from server `j` was accepted, at this start of it.
     pub(crate) fn here<R: Wait>(&self, rt: &R, j: u8, start: u64) {
-        self.set(rt, j, Arrival::Here(start));
+        self.set(rt, j, LinkArrival::Here(start));
     }
 
     /// The link from server `j` doesn't stand any more. It tells whether the server wasn't ready before: then that is
     /// told by whoever waits, and by nobody else.
     pub(crate) fn lost<R: Wait>(&self, rt: &R, j: u8, reason: &'static str) -> bool {
-        self.set(rt, j, Arrival::Lost(reason))
+        self.set(rt, j, LinkArrival::Lost(reason))
     }
 
     /// Whether the server is ready.
@@ -78,7 +78,7 @@ impl Arrivals {
     }
 
     // It tells whether the server isn't ready.
-    fn set<R: Wait>(&self, rt: &R, j: u8, arrival: Arrival) -> bool {
+    fn set<R: Wait>(&self, rt: &R, j: u8, arrival: LinkArrival) -> bool {
         let mut guard = self.arrived.lock(rt);
         let arrived = &mut *guard;
         if let Some(place) = arrived.links.get_mut(usize::from(j)) {
@@ -141,18 +141,18 @@ fn is_over<R: Clock>(rt: &R, begun: Instant) -> bool {
 }
 
 // How far the links are, of which those to the other servers stand at these starts.
-fn readiness_of(links: &[Arrival], starts: &[Option<u64>]) -> Readiness {
+fn readiness_of(links: &[LinkArrival], starts: &[Option<u64>]) -> Readiness {
     let mut readiness = Readiness::Whole;
     let mut j = 0u8;
     for start in starts {
         if let Some(start) = start {
             match links.get(usize::from(j)) {
-                Some(Arrival::Here(other)) if other == start => {}
-                Some(Arrival::Here(_)) => return Readiness::Broken(ServerFault::Restarted(j)),
-                Some(Arrival::Lost(reason)) => {
+                Some(LinkArrival::Here(other)) if other == start => {}
+                Some(LinkArrival::Here(_)) => return Readiness::Broken(ServerFault::Restarted(j)),
+                Some(LinkArrival::Lost(reason)) => {
                     return Readiness::Broken(ServerFault::Lost(j, reason));
                 }
-                Some(Arrival::Away) | None => readiness = Readiness::Waits(j),
+                Some(LinkArrival::Away) | None => readiness = Readiness::Waits(j),
             }
         }
         j = j.wrapping_add(1);

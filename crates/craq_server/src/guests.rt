@@ -1,9 +1,9 @@
 //! Guests: the other servers, whose sockets the first serving thread reads.
 
-use crate::incoming_links::IncomingLinks;
 use crate::link_lines::tell_from;
 use crate::link_threads::bit;
 use crate::peer_streams::PeerStreams;
+use crate::received_links::ReceivedLinks;
 use crate::reported_connections::{Name, ReportedConnection, why_ended};
 use ends::TrackedWriter;
 use io_threads::{Guests, LoopHandles};
@@ -55,7 +55,7 @@ impl<R: Clock + Drop> Guest<R> {
         &mut self,
         rt: &W,
         piece: &mut [u8],
-        incoming: &IncomingLinks,
+        incoming: &ReceivedLinks,
     ) -> (Option<Result<PeerEnd, LinkFault>>, bool) {
         let heard = self.read(rt, piece);
         if let Some(handed) = self.speaks.taker.handed() {
@@ -69,7 +69,7 @@ impl<R: Clock + Drop> Guest<R> {
     }
 
     /// It isn't heard any more: its connection ends. Who spoke is given back.
-    pub(crate) fn leave<W: Wait>(self, rt: &W, incoming: &IncomingLinks) -> Speaker {
+    pub(crate) fn leave<W: Wait>(self, rt: &W, incoming: &ReceivedLinks) -> Speaker {
         let Guest {
             j,
             number,

@@ -60,9 +60,9 @@ where
     confirms_at: Option<u64>,
 }
 
-// What a look at the links goes by.
+// What a round of the links goes by.
 #[derive(Drop)]
-struct Look<'a, R> {
+struct LinkRound<'a, R> {
     rt: R,
     alloc: Global,
     registry: &'a Registry,
@@ -170,7 +170,7 @@ impl<R: Wait + Clock + Net + Copy + Drop> LinkThread<R> {
 
     // Looks after each link. Whether there is news for their writer.
     fn look(&mut self, ready: u64, now: u64) -> bool {
-        let look = Look {
+        let round = LinkRound {
             rt: self.rt,
             alloc: self.alloc,
             registry: self.poll.registry(),
@@ -182,13 +182,13 @@ impl<R: Wait + Clock + Net + Copy + Drop> LinkThread<R> {
         let mut is_news = false;
         for keeper in self.keepers.iter_mut() {
             let is_ready = ready & bit(usize::from(keeper.j)) != 0;
-            is_news |= look.at(keeper, is_ready);
+            is_news |= round.at(keeper, is_ready);
         }
         is_news
     }
 }
 
-impl<'a, R: Wait + Clock + Net + Copy + Drop> Look<'a, R> {
+impl<'a, R: Wait + Clock + Net + Copy + Drop> LinkRound<'a, R> {
     fn control(&self) -> &PeerStreams<R> {
         self.shared_port.link_control()
     }

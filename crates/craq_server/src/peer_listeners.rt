@@ -4,10 +4,10 @@ use crate::answered_masters::AnsweredMaster;
 use crate::arrivals::Arrivals;
 use crate::greeters::Greeter;
 use crate::guests::{Guest, GuestRoom, heals};
-use crate::incoming_links::Room;
 use crate::link_lines::{tell_from, tell_master, tell_old};
 use crate::peer_streams::PeerStreams;
 use crate::pending_connections::{Greeting, PendingConnections, read_greeting};
+use crate::received_links::Vacancy;
 use crate::refusals::Refusals;
 use crate::reported_connections::{Kind, Name, ReportedConnection, why_ended};
 use ends::{TrackedReader, TrackedWriter};
@@ -255,9 +255,9 @@ impl<C: Clock + Drop> PeerListener<C> {
                 Err(Reason::Taken) => {
                     let incoming = self.shared_port.link_control().incoming();
                     match incoming.make_room(rt, id, opener.start, number) {
-                        Room::Soon => thread::sleep(rt, Duration::from_millis(1)),
-                        Room::Later => return None,
-                        Room::OtherStart => return Some(Err(Reason::Taken)),
+                        Vacancy::Soon => thread::sleep(rt, Duration::from_millis(1)),
+                        Vacancy::Later => return None,
+                        Vacancy::OtherStart => return Some(Err(Reason::Taken)),
                     }
                 }
                 other => return Some(other),

@@ -3,10 +3,10 @@ ghost use Rattle.std.specs.Prelude.{◌≡◌, IfOk};
 ghost use Rattle.leases.specs.Shared.{is_timed};
 ghost use Rattle.craq_server.specs.Held.{may_end};
 
-use crate::incoming_links::IncomingLinks;
 use crate::link_bells::LinkBell;
 use crate::link_mailboxes::LinkMailboxes;
 use crate::link_sockets::LinkSocket;
+use crate::received_links::ReceivedLinks;
 use crate::still_links::StillLinks;
 use leases::{AnyEnd, Lease, SharedLease, Term};
 use links::LinkControl;
@@ -25,7 +25,7 @@ pub(crate) struct PeerStreams<R> {
     rt: R,
     id: u8,
     mailboxes: Arc<LinkMailboxes<R>, Global>,
-    incoming: IncomingLinks,
+    incoming: ReceivedLinks,
     still_links: StillLinks,
     // Rung for news of links, and for what masters bring.
     bell: LinkBell,
@@ -61,7 +61,7 @@ impl<R: Clock + Drop> PeerStreams<R> {
             rt,
             id,
             mailboxes: Arc::new(alloc, LinkMailboxes::new(alloc, servers, bell.share()?)?)?,
-            incoming: IncomingLinks::new(alloc, servers, bell.share()?)?,
+            incoming: ReceivedLinks::new(alloc, servers, bell.share()?)?,
             still_links: StillLinks::new(),
             bell,
             gone,
@@ -87,7 +87,7 @@ impl<R: Clock + Drop> PeerStreams<R> {
     }
 
     /// The links from the other servers.
-    pub(crate) fn incoming(&self) -> &IncomingLinks {
+    pub(crate) fn incoming(&self) -> &ReceivedLinks {
         &self.incoming
     }
 

@@ -4,7 +4,7 @@ ghost use Rattle.faces.specs.Histories.{IsLater};
 
 use super::servers::pooled;
 use in_process_links::InProcessLinks;
-use io_threads::{Client, Heard, Pooled, Ready};
+use io_threads::{Client, Pooled, Ready, ReplyOutcome};
 use leases::{AnyEnd, Lease, Order, Reading, SharedLease, Term};
 use rail::Worker;
 use seats::{Pause, SeatPool};
@@ -171,7 +171,7 @@ impl<R: Wait + Clock + Copy + Drop> Beside for Alone<'_, R> {
     fn hears(&mut self) -> bool {
         let mut links = InProcessLinks::new(self.rt, 0, Vec::new(self.alloc));
         matches!(self.worker.turn_if_any(&mut links), Ok(Some(_)))
-            && self.client.receive_replies(&self.rt, &mut self.pool) == Heard::Reply
+            && self.client.receive_replies(&self.rt, &mut self.pool) == ReplyOutcome::Reply
     }
 }
 

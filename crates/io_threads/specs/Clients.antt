@@ -16,8 +16,8 @@ use Rattle.seats.specs.declared.client_connections.CallStanding.TheVariants.{Idl
 use Rattle.seats.specs.declared.client_connections.CallStanding.TheVariants.{Over as Spent}
 use Rattle.seats.specs.declared.client_connections.Pause.{Pause}
 use Rattle.seats.specs.declared.client_connections.Pause.TheVariants.{Input, Output, Lease, Seat, Reply, Turn, Over}
-use Rattle.io_threads.specs.declared.clients.Heard.{Heard}
-use Rattle.io_threads.specs.declared.clients.Heard.TheVariants.{Reply as ReplyCame, NotYet, Over as Lost}
+use Rattle.io_threads.specs.declared.clients.ReplyOutcome.{ReplyOutcome}
+use Rattle.io_threads.specs.declared.clients.ReplyOutcome.TheVariants.{Reply as ReplyCame, NotYet, Over as Lost}
 use Rattle.io_threads.specs.declared.clients.Progress.{Progress}
 
 -- A connection with its socket: what has come of it, the bytes that the socket gave, and those that it took; whether
@@ -116,7 +116,7 @@ pub record HasGoneQuietly (t u : ClientConnectionState) (p q : Pooling) : Type 0
 
 -- What came of the replies to its calls: one or more were handed on, each to the call that it answers, in turn; none
 -- has come, and nothing has changed; or, perhaps after some, no call is answered any more.
-abbrev pub HasHeardOf : Heard → ClientConnectionState → ClientConnectionState → Pooling → Pooling → Type 0
+abbrev pub HasHeardOf : ReplyOutcome → ClientConnectionState → ClientConnectionState → Pooling → Pooling → Type 0
 HasHeardOf ReplyCame t u p q = HasHeard t u × HasHeardInTurn t u p q (seats_open u.standing u.ahead)
 HasHeardOf NotYet t u p q = u ≡ t
 HasHeardOf (Lost fault) t u p q =

@@ -27,7 +27,7 @@ pub struct Progress {
 
 /// What came of the replies to a client's calls.
 #[derive(Clone, Copy, Debug, PartialEq, Eq)]
-pub enum Heard {
+pub enum ReplyOutcome {
     /// One or more have come, and were handed on.
     Reply,
     /// None has come yet.
@@ -366,7 +366,7 @@ impl<S: Read + Write> Client<S> {
 
     /// Takes the replies to the calls that were sent, as many as have come, that to the oldest call first, and says
     /// what came of them. Nothing is read, written or sent.
-    pub fn receive_replies<R: Wait>(&mut self, rt: &R, pool: &mut SeatPool) -> Heard
+    pub fn receive_replies<R: Wait>(&mut self, rt: &R, pool: &mut SeatPool) -> ReplyOutcome
         requires known { IsLater self.old.client_connection.seen pool.old.seen }
         ensures known { IsLater self.new.client_connection.seen pool.new.seen }
         ensures later { IsLater pool.old.seen pool.new.seen }
@@ -377,9 +377,9 @@ impl<S: Read + Write> Client<S> {
         ensures unsent { HasSentNothing pool.old pool.new }
     {
         match self.client_connection.receive_replies(rt, pool) {
-            Ok(true) => Heard::Reply,
-            Ok(false) => Heard::NotYet,
-            Err(fault) => Heard::Over(fault),
+            Ok(true) => ReplyOutcome::Reply,
+            Ok(false) => ReplyOutcome::NotYet,
+            Err(fault) => ReplyOutcome::Over(fault),
         }
     }
 

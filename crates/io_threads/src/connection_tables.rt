@@ -1,6 +1,6 @@
 //! The clients of one thread at one server, and the seats that it has there.
 
-use crate::clients::{Heard, Ready};
+use crate::clients::{Ready, ReplyOutcome};
 use crate::known_clients;
 use crate::known_clients::Clients;
 use crate::loop_handles::Arrival;
@@ -239,19 +239,19 @@ impl ConnectionTable {
                 return any;
             };
             match known_clients::receive_replies(rt, &mut self.pool, &mut self.clients, key) {
-                Heard::NotYet => self.await_reply(key),
-                Heard::Reply => {
+                ReplyOutcome::NotYet => self.await_reply(key),
+                ReplyOutcome::Reply => {
                     any = true;
                     self.serve_seat_queue(rt, piece);
                     self.serve_client(rt, key, piece);
                 }
                 // Only this client's text found no memory; a reply is heard without a read or a write.
-                Heard::Over(ServeFault::Memory | ServeFault::Read | ServeFault::Write) => {
+                ReplyOutcome::Over(ServeFault::Memory | ServeFault::Read | ServeFault::Write) => {
                     any = true;
                     self.close(key);
                     self.serve_seat_queue(rt, piece);
                 }
-                Heard::Over(ServeFault::Call) => {
+                ReplyOutcome::Over(ServeFault::Call) => {
                     self.shut();
                     return true;
                 }

@@ -2,7 +2,7 @@
 //! told to any of them, and so it stays.
 ghost use Rattle.io_threads.specs.KnownClients.{KnowsAll};
 
-use crate::clients::{Client, Heard, Progress, Ready};
+use crate::clients::{Client, Progress, Ready, ReplyOutcome};
 use crate::permitted_streams::PermittedStream;
 use seats::{Pause, SeatPool};
 use server_guards::OutputPermit;
@@ -82,13 +82,13 @@ pub(crate) fn receive_replies<R: Wait>(
     pool: &mut SeatPool,
     clients: &mut Clients,
     key: usize,
-) -> Heard
+) -> ReplyOutcome
     requires known { KnowsAll pool.old.seen clients.old }
     ensures known { KnowsAll pool.new.seen clients.new }
 {
     match clients.get_mut(key) {
         Some(client) => client.receive_replies(rt, pool),
-        None => Heard::NotYet,
+        None => ReplyOutcome::NotYet,
     }
 }
 

@@ -21,7 +21,7 @@ mod seat_shares;
 mod turn_schedulers;
 mod wait_queues;
 
-pub use clients::{Client, Heard, Progress, Ready};
+pub use clients::{Client, Progress, Ready, ReplyOutcome};
 pub use front_ends::{FrontEnd, FrontEndFault, FrontEndServer, FrontEndSettings, open_front_end};
 pub use guests::{Guests, NoGuests};
 pub use limits::{most_files, open_files, usual_threads};

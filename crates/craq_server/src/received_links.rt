@@ -12,7 +12,7 @@ use wire::{Frame, encode_onto};
 
 /// A connection from another server that stands.
 #[derive(Drop)]
-struct Incoming {
+struct ReceivedConnection {
     // Which one it is: no other one has this number.
     number: u64,
     stream: Arc<TcpStream, Global>,
@@ -23,14 +23,14 @@ struct Incoming {
 
 /// A link from this start of another server, with its connection, if one stands.
 #[derive(Drop)]
-struct IncomingLink {
+struct ReceivedLink {
     start: u64,
-    connection: Option<Incoming>,
+    connection: Option<ReceivedConnection>,
 }
 
 /// Whether there is room for a connection of a link.
 #[derive(Clone, Copy, PartialEq, Eq)]
-pub(crate) enum Room {
+pub(crate) enum Vacancy {
     /// As soon as the one before isn't read any more.
     Soon,
     /// No: a later one stands.
@@ -41,27 +41,27 @@ pub(crate) enum Room {
 
 /// The links from the other servers, by their ids.
 #[derive(Drop)]
-pub(crate) struct IncomingLinks {
+pub(crate) struct ReceivedLinks {
     alloc: Global,
-    links: Mutex<Vec<Option<IncomingLink>>>,
+    links: Mutex<Vec<Option<ReceivedLink>>>,
     // How many bytes were handed on since the last confirmations.
     unconfirmed: AtomicU64,
     // Wakes the thread that confirms.
     bell: LinkBell,
 }
 
-impl IncomingLinks {
+impl ReceivedLinks {
     /// None yet, in a chain of n servers.
     pub(crate) fn new(
         alloc: Global,
         servers: u8,
         bell: LinkBell,
-    ) -> Result<IncomingLinks, AllocError> {
+    ) -> Result<ReceivedLinks, AllocError> {
         let mut links = Vec::new(alloc);
         for _ in 0..servers {
             links.push(None)?;
         }
-        Ok(IncomingLinks {
+        Ok(ReceivedLinks {
             alloc,
             links: Mutex::new(links),
             unconfirmed: AtomicU64::new(0),
@@ -81,13 +81,13 @@ impl IncomingLinks {
         confirmed: u64,
     ) -> Result<Arc<AtomicU64, Global>, AllocError> {
         let handed = Arc::new(self.alloc, AtomicU64::new(confirmed))?;
-        let connection = Incoming {
+        let connection = ReceivedConnection {
             number,
             stream: Arc::try_clone(stream)?,
             handed: Arc::try_clone(&handed)?,
             confirmed,
         };
-        let link = IncomingLink {
+        let link = ReceivedLink {
             start,
             connection: Some(connection),
         };
@@ -101,11 +101,11 @@ impl IncomingLinks {
     }
 
     /// Makes room for connection `number` from server `j`, at this start of it: an earlier connection is ended.
-    pub(crate) fn make_room<W: Wait>(&self, rt: &W, j: u8, start: u64, number: u64) -> Room {
+    pub(crate) fn make_room<W: Wait>(&self, rt: &W, j: u8, start: u64, number: u64) -> Vacancy {
         let guard = self.links.lock(rt);
         match guard.get(usize::from(j)) {
             Some(Some(link)) if link.start == start => link.make_room(number),
-            _ => Room::OtherStart,
+            _ => Vacancy::OtherStart,
         }
     }
 
@@ -149,20 +149,20 @@ impl IncomingLinks {
     }
 }
 
-impl IncomingLink {
-    fn make_room(&self, number: u64) -> Room {
+impl ReceivedLink {
+    fn make_room(&self, number: u64) -> Vacancy {
         match &self.connection {
-            Some(connection) if connection.number > number => Room::Later,
+            Some(connection) if connection.number > number => Vacancy::Later,
             Some(connection) => {
                 let _ = connection.stream.shutdown(Shutdown::Both);
-                Room::Soon
+                Vacancy::Soon
             }
-            None => Room::Soon,
+            None => Vacancy::Soon,
         }
     }
 }
 
-impl Incoming {
+impl ReceivedConnection {
     // Confirms what was handed on. If that isn't taken at once the connection is ended.
     fn confirm(&mut self, alloc: Global) {
         let handed = self.handed.load(Ordering::SeqCst);
