@@ -19,3 +19,4 @@ pub mod PipelinedSets
 pub mod OvertakenSet
 pub mod Starts
 pub mod HandedOver
+pub mod UsedPorts

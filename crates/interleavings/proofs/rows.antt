@@ -6,3 +6,4 @@ pub mod RowEnds
 pub mod Going
 pub mod RowOrder
 pub mod Answered
+pub mod SentInOrder
