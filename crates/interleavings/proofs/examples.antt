@@ -20,3 +20,4 @@ pub mod OvertakenSet
 pub mod Starts
 pub mod HandedOver
 pub mod UsedPorts
+pub mod SentSets

@@ -7,3 +7,5 @@ pub mod Going
 pub mod RowOrder
 pub mod Answered
 pub mod SentInOrder
+pub mod PairsInOrder
+pub mod OneSender

@@ -1,6 +1,7 @@
 //! Laws: whatever order the threads' moves come in, there is one order of calls, no call is forgotten, and clients are
 //! written what their bytes ask for; and ports are names.
-ghost use Rattle.std.specs.Prelude.{◌≡◌, ℕ, ◌^◌, ◌≤◌, ◌<◌, List, ◌∷◌, ◌++◌, length, map, Some, slice_get, true, IsSome};
+ghost use Rattle.std.specs.Prelude.{◌≡◌, ℕ, ◌^◌, ◌≤◌, ◌<◌, List, ◌∷◌, ◌++◌, length, map, take, Some, slice_get, true};
+ghost use Rattle.std.specs.Prelude.{IsSome};
 ghost use Rattle.table.specs.declared.operations.Call.{Call};
 ghost use Rattle.table.specs.declared.operations.Reply.{Reply};
 ghost use Rattle.node.specs.Servers.{ServerState};
@@ -25,6 +26,7 @@ ghost use Rattle.interleavings.specs.Pools.{PooledMove, pooled, IsOneOrderPooled
 ghost use Rattle.interleavings.specs.Pools.{IsServingQuiet, NoneOpen, ServedHaveAll};
 ghost use Rattle.interleavings.specs.Rows.{PartName, AreWhole, IsRow, IsPublishedInTurn};
 ghost use Rattle.interleavings.specs.Rows.{IsRowServed, IsRowInTurn};
+ghost use Rattle.interleavings.specs.Senders.{Senders, HaveOneSender, AreTakenInOrder};
 ghost use Rattle.world.specs.Orders.{OrderedCall};
 
 /// Every run of moves of a chain of up to 16 servers, with servers that stop at any move, has an order of its calls in
@@ -127,6 +129,12 @@ pub fn served_calls_may_have_any_free_port()
         → ((pooled count homes ports moves).chain.seats c).queued ≡ reply ∷ more
         → waits (served_at (pooled count homes ports moves) c) ≡ true
         → may_have (served_at (pooled count homes ports moves) c).session.asked reply ≡ true }
+    // Some run with the seats' numbers as ports, of as many moves, shows the same connections after each of them: so
+    // what is said of connections alone, as that they are a row, holds of both.
+    ensures same { (count : ℕ) (homes : List ℕ) (ports : Ports) (moves : List PooledMove)
+        → (others : List ServingMove) × (length others ≡ length moves)
+        × ((k : ℕ) → (served done count homes (take k others)).connections
+        ≡ (pooled count homes ports (take k moves)).connections) }
     // If nothing is left to do, each call of a connection that hasn't ended has its reply, if its server goes on;
     ensures answered { (count : ℕ) (homes : List ℕ) (ports : Ports) (moves : List PooledMove)
         → count ≤ 16
@@ -238,4 +246,26 @@ pub fn pipelining_clients_see_one_table()
     ensures turns { (bytes more : List ℕ)
         → AreWhole bytes
         → turns (bytes ++ more) ≡ turns bytes ++ turns more }
+{}
+
+/// A row's updates are published in turn if all its seats send by one sender, and each sender's calls are taken in the
+/// order in which they were sent.
+pub fn rows_are_published_in_turn()
+    ensures published { (senders : Senders) (count : ℕ) (homes : List ℕ) (moves : List ServingMove)
+        (row : List PartName)
+        → count ≤ 16
+        → IsRow done count homes moves row
+        → HaveOneSender senders row
+        → AreTakenInOrder senders count homes moves
+        → IsPublishedInTurn done (λ c. c) count homes moves row }
+    // So there is one order of all connections' calls, in which the calls of the row stand in turn.
+    ensures order { (senders : Senders) (count : ℕ) (homes : List ℕ) (moves : List ServingMove)
+        (row : List PartName)
+        → count ≤ 16
+        → IsRow done count homes moves row
+        → HaveOneSender senders row
+        → AreTakenInOrder senders count homes moves
+        → (h : List ServedCall) × IsOneOrder done count homes moves h
+        × IsServedInTurn done (λ c. c) count homes moves h
+        × IsRowInTurn (λ c. c) (served done count homes moves) row h }
 {}

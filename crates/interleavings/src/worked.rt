@@ -29,7 +29,8 @@ ghost use Rattle.interleavings.specs.Served.{IsServedInTurn};
 ghost use Rattle.interleavings.specs.Rows.{IsRow, IsPublishedInTurn, IsRowInTurn, row_read};
 ghost use Rattle.interleavings.specs.Rows.{row_calls, row_replies, row_written};
 ghost use Rattle.interleavings.specs.WorkedRows.{first_bytes, second_bytes, two_parts, pipelined_moves};
-ghost use Rattle.interleavings.specs.WorkedRows.{first_call, second_call, overtaken_moves};
+ghost use Rattle.interleavings.specs.WorkedRows.{first_call, second_call, overtaken_moves, one_sender, two_senders};
+ghost use Rattle.interleavings.specs.Senders.{HaveOneSender, AreTakenInOrder};
 ghost use Rattle.interleavings.specs.WorkedServing.{talk_homes, talk_moves, last_moves, lost_moves, delete};
 ghost use Rattle.interleavings.specs.WorkedServing.{refused_moves, turn_moves, first_set, second_set};
 
@@ -135,6 +136,21 @@ pub fn overtaken_set_is_out_of_turn()
         → IsServedInTurn done (λ c. c) 1 flight_homes overtaken_moves h
         → IsRowInTurn (λ c. c) (served done 1 flight_homes overtaken_moves) two_parts h
         → ⊥ }
+{}
+
+/// Two sets of one client go by one sender: in one run they are taken in the order in which they were sent, and in
+/// another they aren't.
+pub fn one_sender_keeps_the_order()
+    ensures one { HaveOneSender one_sender two_parts }
+    ensures in_order { AreTakenInOrder one_sender 1 flight_homes pipelined_moves }
+    ensures overtaken { AreTakenInOrder one_sender 1 flight_homes overtaken_moves → ⊥ }
+{}
+
+/// If the two sets go by two senders, each sender's calls may be taken in order, and the sets not published in turn.
+pub fn two_senders_may_overtake()
+    ensures two { HaveOneSender two_senders two_parts → ⊥ }
+    ensures in_order { AreTakenInOrder two_senders 1 flight_homes overtaken_moves }
+    ensures out_of_turn { IsPublishedInTurn done (λ c. c) 1 flight_homes overtaken_moves two_parts → ⊥ }
 {}
 
 /// Two seats of one server choose the same port. The second one's flush isn't sent while the first one's set is open

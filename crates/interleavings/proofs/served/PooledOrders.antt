@@ -98,6 +98,12 @@ module _ (n : ℕ) (homes : List ℕ) (ports : Ports) (moves : List PooledMove) 
         record { in_turn = λ x y j p s. o.2.in_turn x y j (first_too x y p) s; own = o.2.own },
       )
 
+  -- some run of the other chain shows the same connections, after each move,
+  pub shows_same : (ms : List ServingMove) × (length ms ≡ length moves)
+      × ((k : ℕ)
+      → (served done n homes (take k ms)).connections ≡ (pooled n homes ports (take k moves)).connections)
+  shows_same = (others, there.long, λ k. (there.stands k).connections)
+
   -- each connection got what its bytes ask for,
   pub each_served : (c k : ℕ) → IsServed ((pooled n homes ports moves).connections c k)
   each_served c k = subst (λ f. IsServed (f c k)) there.ends.connections (each_is_served n homes others c k)

@@ -1,5 +1,5 @@
 use Rattle.interleavings.proofs.served.PooledOrders.{one_order_pooled, each_served, first_fits_pooled, none_open}
-use Rattle.interleavings.proofs.served.PooledOrders.{served_have_all}
+use Rattle.interleavings.proofs.served.PooledOrders.{served_have_all, shows_same}
 use Rattle.interleavings.proofs.laws.served_calls_may_have_any_free_port.Goals as goal
 
 pub returns-clause-order : goal.returns-clause-order
@@ -19,3 +19,6 @@ returns-clause-answered c count homes ports moves few short quiet =
 pub returns-clause-all : goal.returns-clause-all
 returns-clause-all c count homes ports moves few short quiet =
     served_have_all count homes ports moves few short quiet
+
+pub returns-clause-same : goal.returns-clause-same
+returns-clause-same c count homes ports moves = shows_same count homes ports moves
