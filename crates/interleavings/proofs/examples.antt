@@ -19,3 +19,5 @@ pub mod PipelinedSets
 pub mod OvertakenSet
 pub mod Starts
 pub mod HandedOver
+pub mod UsedPorts
+pub mod SentSets

@@ -10,3 +10,10 @@ pub mod OwnPortMoves
 pub mod OwnPortReplies
 pub mod OwnPortTurns
 pub mod OwnPortRuns
+pub mod OpenPorts
+pub mod StandingPorts
+pub mod PortHolders
+pub mod FreePortSends
+pub mod FreePortReplies
+pub mod FreePortMoves
+pub mod FreePortRuns

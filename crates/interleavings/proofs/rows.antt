@@ -6,3 +6,6 @@ pub mod RowEnds
 pub mod Going
 pub mod RowOrder
 pub mod Answered
+pub mod SentInOrder
+pub mod PairsInOrder
+pub mod OneSender

@@ -15,3 +15,5 @@ pub mod OrderFromStart
 pub mod OneOrder
 pub mod Kinds
 pub mod OwnPortServing
+pub mod PooledRuns
+pub mod PooledOrders

@@ -5,6 +5,7 @@ use Rattle.interleavings.specs.Moves.{Takes, Publishes, Replies}
 use Rattle.interleavings.specs.ServingMoves.{ServingMove, Reads, Begins, Asks, Answers, Writes, Runs}
 use Rattle.interleavings.specs.Served.{CallName}
 use Rattle.interleavings.specs.Rows.{PartName}
+use Rattle.interleavings.specs.Senders.{Senders}
 
 -- ---- One server, and a client that sends two sets at once. The second one goes ahead while the first one is open, so
 -- ---- it is of another part.
@@ -56,3 +57,13 @@ pipelined_moves = both_made ++ (steps_for 0 ++ (steps_for 1 ++ both_answered))
 -- the moves
 unfoldable pub overtaken_moves : List ServingMove
 overtaken_moves = both_made ++ (steps_for 1 ++ (steps_for 0 ++ both_answered))
+
+-- ---- By which sender the two seats send.
+
+-- both by one
+abbrev pub one_sender : Senders
+one_sender c = 0
+
+-- each by one of its own
+abbrev pub two_senders : Senders
+two_senders c = c

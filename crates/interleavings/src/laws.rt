@@ -1,6 +1,7 @@
 //! Laws: whatever order the threads' moves come in, there is one order of calls, no call is forgotten, and clients are
 //! written what their bytes ask for; and ports are names.
-ghost use Rattle.std.specs.Prelude.{◌≡◌, ℕ, ◌^◌, ◌≤◌, ◌<◌, List, ◌∷◌, ◌++◌, length, map, Some, slice_get, true, IsSome};
+ghost use Rattle.std.specs.Prelude.{◌≡◌, ℕ, ◌^◌, ◌≤◌, ◌<◌, List, ◌∷◌, ◌++◌, length, map, take, Some, slice_get, true};
+ghost use Rattle.std.specs.Prelude.{IsSome};
 ghost use Rattle.table.specs.declared.operations.Call.{Call};
 ghost use Rattle.table.specs.declared.operations.Reply.{Reply};
 ghost use Rattle.node.specs.Servers.{ServerState};
@@ -12,16 +13,20 @@ ghost use Rattle.interleavings.specs.Moves.{Move, moved, done};
 ghost use Rattle.interleavings.specs.Asked.{AreAsked, IsAsked, IsSpelled};
 ghost use Rattle.interleavings.specs.Orders.{IsLinearization, IsInTurn};
 ghost use Rattle.interleavings.specs.Quiet.{IsQuiet, NoneForgotten};
-ghost use Rattle.interleavings.specs.OtherMoves.{Doing, IsLinearizationBy, IsInTurnBy};
+ghost use Rattle.interleavings.specs.OtherMoves.{Doing, moved_by, IsLinearizationBy, IsInTurnBy};
 ghost use Rattle.interleavings.specs.OwnPorts.{seats_at, port_at, own_port, with_own_ports};
+ghost use Rattle.interleavings.specs.FreePorts.{Ports, with_free_ports, IsInTurnAt};
 ghost use Rattle.interleavings.specs.Ports.{input_at, renamed, renamed_result};
 ghost use Rattle.interleavings.specs.Connections.{waits, may_have};
 ghost use Rattle.interleavings.specs.ServingMoves.{ServingMove, served_at, served};
 ghost use Rattle.interleavings.specs.Served.{unrefused, NoneRefused, IsServed, ServedCall, IsOneOrder};
 ghost use Rattle.interleavings.specs.Served.{IsServedInTurn, NoneUnanswered, AllHaveAll, CallName, reply_got};
 ghost use Rattle.interleavings.specs.Served.{is_call_published};
+ghost use Rattle.interleavings.specs.Pools.{PooledMove, pooled, IsOneOrderPooled, IsServedInTurnPooled};
+ghost use Rattle.interleavings.specs.Pools.{IsServingQuiet, NoneOpen, ServedHaveAll};
 ghost use Rattle.interleavings.specs.Rows.{PartName, AreWhole, IsRow, IsPublishedInTurn};
 ghost use Rattle.interleavings.specs.Rows.{IsRowServed, IsRowInTurn};
+ghost use Rattle.interleavings.specs.Senders.{Senders, HaveOneSender, AreTakenInOrder};
 ghost use Rattle.world.specs.Orders.{OrderedCall};
 
 /// Every run of moves of a chain of up to 16 servers, with servers that stop at any move, has an order of its calls in
@@ -72,6 +77,24 @@ pub fn seats_may_have_own_ports()
         → port_at homes c i < seats_at homes i }
 {}
 
+/// Calls may have any free port: whichever port each call of a seat is sent from, if no call from there awaits its reply
+/// at that server.
+pub fn calls_may_have_any_free_port()
+    // Every run has an order of its calls, in which updates of a server stand in turn.
+    ensures order { (count : ℕ) (homes : List ℕ) (ports : Ports) (moves : List Move)
+        → count ≤ 16
+        → AreAsked moves
+        → (h : List OrderedCall) × IsLinearizationBy (with_free_ports homes ports) count homes moves h
+        × IsInTurnAt ports count homes moves h }
+    // If nothing is left to do, each call of a seat whose server goes on has its reply.
+    ensures none_forgotten { (count : ℕ) (homes : List ℕ) (ports : Ports) (moves : List Move)
+        → count ≤ 16
+        → length moves < 2 ^ 62
+        → AreAsked moves
+        → IsQuiet (moved_by (with_free_ports homes ports) count homes moves)
+        → NoneForgotten (moved_by (with_free_ports homes ports) count homes moves) }
+{}
+
 /// Seats that serve connections may be numbered by each server for itself, as the code does.
 pub fn served_seats_may_have_own_ports()
     // There is one order of the calls of all connections, in which updates of a server stand in turn, and so do the
@@ -84,6 +107,47 @@ pub fn served_seats_may_have_own_ports()
     // of its turns.
     ensures bytes { (count : ℕ) (homes : List ℕ) (moves : List ServingMove) (c n : ℕ)
         → IsServed ((served (with_own_ports homes) count homes moves).connections c n) }
+{}
+
+/// Seats that serve connections may send each call from any free port, and a port is free again once its reply is taken:
+/// by its connection, or for nobody if that has ended.
+pub fn served_calls_may_have_any_free_port()
+    // There is one order of the calls of all connections, in which updates of a server stand in turn, and so do the
+    // calls of a connection.
+    ensures order { (count : ℕ) (homes : List ℕ) (ports : Ports) (moves : List PooledMove)
+        → count ≤ 16
+        → (h : List ServedCall) × IsOneOrderPooled ports count homes moves h
+        × IsServedInTurnPooled ports count homes moves h }
+    // Each connection makes the calls that its bytes spell, but for stores that are refused, and is written the texts
+    // of its turns.
+    ensures bytes { (count : ℕ) (homes : List ℕ) (ports : Ports) (moves : List PooledMove) (c n : ℕ)
+        → IsServed ((pooled count homes ports moves).connections c n) }
+    // What stands first in a queue is a reply that the connection which waits for it can take.
+    ensures kinds { (count : ℕ) (homes : List ℕ) (ports : Ports) (moves : List PooledMove) (c : ℕ) (reply : Reply)
+        (more : List Reply)
+        → count ≤ 16
+        → ((pooled count homes ports moves).chain.seats c).queued ≡ reply ∷ more
+        → waits (served_at (pooled count homes ports moves) c) ≡ true
+        → may_have (served_at (pooled count homes ports moves) c).session.asked reply ≡ true }
+    // Some run with the seats' numbers as ports, of as many moves, shows the same connections after each of them: so
+    // what is said of connections alone, as that they are a row, holds of both.
+    ensures same { (count : ℕ) (homes : List ℕ) (ports : Ports) (moves : List PooledMove)
+        → (others : List ServingMove) × (length others ≡ length moves)
+        × ((k : ℕ) → (served done count homes (take k others)).connections
+        ≡ (pooled count homes ports (take k moves)).connections) }
+    // If nothing is left to do, each call of a connection that hasn't ended has its reply, if its server goes on;
+    ensures answered { (count : ℕ) (homes : List ℕ) (ports : Ports) (moves : List PooledMove)
+        → count ≤ 16
+        → length moves < 2 ^ 62
+        → IsServingQuiet (pooled count homes ports moves)
+        → NoneOpen (pooled count homes ports moves) }
+    // and if nothing is left to do at such a connection either, all its calls are answered or refused, and all is
+    // written.
+    ensures all { (count : ℕ) (homes : List ℕ) (ports : Ports) (moves : List PooledMove)
+        → count ≤ 16
+        → length moves < 2 ^ 62
+        → IsServingQuiet (pooled count homes ports moves)
+        → ServedHaveAll (pooled count homes ports moves) }
 {}
 
 /// Each call that clients can ask is spelled by some bytes, as the one call of a request.
@@ -182,4 +246,26 @@ pub fn pipelining_clients_see_one_table()
     ensures turns { (bytes more : List ℕ)
         → AreWhole bytes
         → turns (bytes ++ more) ≡ turns bytes ++ turns more }
+{}
+
+/// A row's updates are published in turn if all its seats send by one sender, and each sender's calls are taken in the
+/// order in which they were sent.
+pub fn rows_are_published_in_turn()
+    ensures published { (senders : Senders) (count : ℕ) (homes : List ℕ) (moves : List ServingMove)
+        (row : List PartName)
+        → count ≤ 16
+        → IsRow done count homes moves row
+        → HaveOneSender senders row
+        → AreTakenInOrder senders count homes moves
+        → IsPublishedInTurn done (λ c. c) count homes moves row }
+    // So there is one order of all connections' calls, in which the calls of the row stand in turn.
+    ensures order { (senders : Senders) (count : ℕ) (homes : List ℕ) (moves : List ServingMove)
+        (row : List PartName)
+        → count ≤ 16
+        → IsRow done count homes moves row
+        → HaveOneSender senders row
+        → AreTakenInOrder senders count homes moves
+        → (h : List ServedCall) × IsOneOrder done count homes moves h
+        × IsServedInTurn done (λ c. c) count homes moves h
+        × IsRowInTurn (λ c. c) (served done count homes moves) row h }
 {}

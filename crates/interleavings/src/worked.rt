@@ -1,6 +1,6 @@
 //! Worked runs: what they come to; and runs that have no order, or forget a call, if a move lacks its rule.
 ghost use Rattle.std.specs.Prelude.{◌≡◌, ℕ, ◌<◌, false, List, [], ◌∷◌, ◌++◌, take, None, Some, codes};
-ghost use Rattle.table.specs.declared.operations.Reply.TheVariants.{Stored, Value};
+ghost use Rattle.table.specs.declared.operations.Reply.TheVariants.{Stored, Value, Flushed};
 ghost use Rattle.proto.specs.Turns.{Replied, Refused};
 ghost use Rattle.node.specs.declared.messages.Body.TheVariants.{Ack};
 ghost use Rattle.world.specs.Orders.{OrderedCall};
@@ -12,7 +12,11 @@ ghost use Rattle.interleavings.specs.Orders.{begun_call, reply_to, IsLinearizati
 ghost use Rattle.interleavings.specs.Quiet.{IsQuiet};
 ghost use Rattle.interleavings.specs.OtherMoves.{moved_by, IsLinearizationBy, HasNoOrder};
 ghost use Rattle.interleavings.specs.WrongMoves.{with_older_looks, with_early_puts, with_early_notices};
-ghost use Rattle.interleavings.specs.WrongMoves.{with_lossy_channels};
+ghost use Rattle.interleavings.specs.WrongMoves.{with_lossy_channels, with_taken_ports, with_old_holders};
+ghost use Rattle.interleavings.specs.FreePorts.{with_free_ports};
+ghost use Rattle.interleavings.specs.Pools.{pooled};
+ghost use Rattle.interleavings.specs.WorkedPorts.{shared_homes, port_zero, flush, set_has_port, port_moves};
+ghost use Rattle.interleavings.specs.WorkedPorts.{taken_moves, old_moves, waiting_moves, collected_moves};
 ghost use Rattle.interleavings.specs.WorkedRuns.{key, set, other_set, item, set_homes, set_moves};
 ghost use Rattle.interleavings.specs.WorkedRuns.{left_to_do};
 ghost use Rattle.interleavings.specs.WorkedRuns.{failover_homes, look_while_dirty, failover_moves};
@@ -25,7 +29,8 @@ ghost use Rattle.interleavings.specs.Served.{IsServedInTurn};
 ghost use Rattle.interleavings.specs.Rows.{IsRow, IsPublishedInTurn, IsRowInTurn, row_read};
 ghost use Rattle.interleavings.specs.Rows.{row_calls, row_replies, row_written};
 ghost use Rattle.interleavings.specs.WorkedRows.{first_bytes, second_bytes, two_parts, pipelined_moves};
-ghost use Rattle.interleavings.specs.WorkedRows.{first_call, second_call, overtaken_moves};
+ghost use Rattle.interleavings.specs.WorkedRows.{first_call, second_call, overtaken_moves, one_sender, two_senders};
+ghost use Rattle.interleavings.specs.Senders.{HaveOneSender, AreTakenInOrder};
 ghost use Rattle.interleavings.specs.WorkedServing.{talk_homes, talk_moves, last_moves, lost_moves, delete};
 ghost use Rattle.interleavings.specs.WorkedServing.{refused_moves, turn_moves, first_set, second_set};
 
@@ -131,6 +136,54 @@ pub fn overtaken_set_is_out_of_turn()
         → IsServedInTurn done (λ c. c) 1 flight_homes overtaken_moves h
         → IsRowInTurn (λ c. c) (served done 1 flight_homes overtaken_moves) two_parts h
         → ⊥ }
+{}
+
+/// Two sets of one client go by one sender: in one run they are taken in the order in which they were sent, and in
+/// another they aren't.
+pub fn one_sender_keeps_the_order()
+    ensures one { HaveOneSender one_sender two_parts }
+    ensures in_order { AreTakenInOrder one_sender 1 flight_homes pipelined_moves }
+    ensures overtaken { AreTakenInOrder one_sender 1 flight_homes overtaken_moves → ⊥ }
+{}
+
+/// If the two sets go by two senders, each sender's calls may be taken in order, and the sets not published in turn.
+pub fn two_senders_may_overtake()
+    ensures two { HaveOneSender two_senders two_parts → ⊥ }
+    ensures in_order { AreTakenInOrder two_senders 1 flight_homes overtaken_moves }
+    ensures out_of_turn { IsPublishedInTurn done (λ c. c) 1 flight_homes overtaken_moves two_parts → ⊥ }
+{}
+
+/// Two seats of one server choose the same port. The second one's flush isn't sent while the first one's set is open
+/// there; it is once the set's reply was put, and each seat gets its own reply.
+pub fn port_is_used_again()
+    ensures waits { begun_call (moved_by (with_free_ports shared_homes port_zero) 1 shared_homes set_has_port) (name 1 0)
+        ≡ None }
+    ensures first { reply_to (moved_by (with_free_ports shared_homes port_zero) 1 shared_homes port_moves) (name 0 0)
+        ≡ Some Stored }
+    ensures second { reply_to (moved_by (with_free_ports shared_homes port_zero) 1 shared_homes port_moves) (name 1 0)
+        ≡ Some Flushed }
+    // Clients can ask these calls.
+    ensures asked { AreAsked port_moves }
+{}
+
+/// A connection ends while its set is open, and another one of its server has chosen the same port for a flush. That
+/// isn't sent before the set's reply was put and was collected; then it is answered.
+pub fn collected_port_is_used_again()
+    ensures waits { ((pooled 1 shared_homes port_zero waiting_moves).connections 1 0).calls ≡ [] }
+    ensures calls { ((pooled 1 shared_homes port_zero collected_moves).connections 1 0).calls ≡ flush ∷ [] }
+    ensures written { ((pooled 1 shared_homes port_zero collected_moves).connections 1 0).written ≡ codes "OK\r\n" }
+    // The set's reply went to nobody.
+    ensures lost { ((pooled 1 shared_homes port_zero collected_moves).connections 0 0).replies ≡ [] }
+{}
+
+/// If a call may be sent from a port at which another one is open, a run has no order.
+pub fn taken_port_has_no_order()
+    ensures { HasNoOrder (with_taken_ports shared_homes port_zero) 1 shared_homes taken_moves }
+{}
+
+/// If a reply may go to the seat that had its port before, a run has no order.
+pub fn old_holder_has_no_order()
+    ensures { HasNoOrder (with_old_holders shared_homes port_zero) 1 shared_homes old_moves }
 {}
 
 /// If a look may show an older face than the one that stands, a run has no order.

@@ -20,6 +20,7 @@ use Rattle.interleavings.proofs.ports.OwnPortMoves.{arrives_same, receives_same,
 use Rattle.interleavings.proofs.ports.OwnPortReplies.{replies_same}
 use Rattle.interleavings.proofs.ports.OwnPortTurns.{published_same}
 use Rattle.interleavings.proofs.ports.RenamedChains.{Same, same_opening}
+use Rattle.interleavings.proofs.ports.SeatNames.{seat_apart}
 use Rattle.interleavings.proofs.relation.Following.{linearizable}
 use Rattle.interleavings.proofs.runs.Simulating.{simulates}
 
@@ -28,7 +29,7 @@ module _ (n : ℕ) (homes : List ℕ) where
       → Same n homes l g
       → Same n homes (with_own_ports homes l m) (done g (named n homes m))
   moves_same (Sends c call) l g h = sends_same n homes l g h c call
-  moves_same (Takes i sender) l g h = takes_same n homes l g h i sender
+  moves_same (Takes i sender) l g h = takes_same n homes l g h (seat_apart homes) i sender
   moves_same (Publishes i) l g h = publishes_same n homes l g h i
   moves_same (Puts i j) l g h = puts_same n homes l g h i j
   moves_same (Arrives i j) l g h = arrives_same n homes l g h i j

@@ -16,7 +16,7 @@ use Rattle.interleavings.proofs.ports.SeatNames.{seat_in, seat_named, seat_apart
 
 module _ (f : ℕ → ℕ) (apart : (p q : ℕ) → f p ≡ f q → p ≡ q) where
   -- the calls of a port under its name
-  calls_renamed : (p : ℕ) (xs : List Input) → calls_from (f p) (map (input_at f) xs) ≡ calls_from p xs
+  pub calls_renamed : (p : ℕ) (xs : List Input) → calls_from (f p) (map (input_at f) xs) ≡ calls_from p xs
   calls_renamed p [] = refl
   calls_renamed p (Called d call ∷ xs) =
       ap (λ cs. cond (f d == f p) (call ∷ cs) cs) (calls_renamed p xs)
@@ -24,7 +24,7 @@ module _ (f : ℕ → ℕ) (apart : (p q : ℕ) → f p ≡ f q → p ≡ q) whe
   calls_renamed p (From j m ∷ xs) = calls_renamed p xs
   calls_renamed p (Gone j ∷ xs) = calls_renamed p xs
 
-queue_renamed : (f : ℕ → ℕ) (s : RunningServer) → queue (running_renamed f s) ≡ map (input_at f) (queue s)
+pub queue_renamed : (f : ℕ → ℕ) (s : RunningServer) → queue (running_renamed f s) ≡ map (input_at f) (queue s)
 queue_renamed f s = by s.unpublished
   where
     by : (o : Option Input)

@@ -1,4 +1,5 @@
--- A chain with each server's own ports, and the chain with the seats' numbers as ports, which does the same.
+-- A chain with each server's own ports, and the chain with the seats' numbers as ports, which does the same: under any
+-- names that ports have, of which `seat_in` gives those of `OwnPorts.antt`.
 use Rattle.std.proofs.Common.{◌≡◌, ℕ, zero, suc, ◌<◌, ◌≤◌, true, false, List, [], ◌∷◌, ◌++◌, map, Some, refl}
 use Rattle.std.proofs.Common.{arith, ap, sym, ◌∙◌, subst, inl, inr}
 use Rattle.std.specs.Prelude.{slice_get, slice_index_or, nat_lt, not}
@@ -14,15 +15,19 @@ use Rattle.interleavings.proofs.lists.ChangedFunctions.{at_other, at_same, kept_
 use Rattle.interleavings.proofs.ports.SeatNames.{seat_in}
 use Rattle.interleavings.proofs.ports.RenamedServers.{running_renamed}
 
--- The chain g is the chain l, with the numbers of the seats as ports. Only of servers of the chain is it asked.
-pub record Same (n : ℕ) (homes : List ℕ) (l g : Chain) : Type 0 where
+-- The chain g is the chain l, with these names of each server's ports. Only of servers of the chain is it asked.
+pub record SameUnder (n : ℕ) (homes : List ℕ) (names : ℕ → ℕ → ℕ) (l g : Chain) : Type 0 where
   pub count : g.count ≡ l.count
-  pub servers : (i : ℕ) → i < n → g.servers i ≡ running_renamed (seat_in homes i) (l.servers i)
+  pub servers : (i : ℕ) → i < n → g.servers i ≡ running_renamed (names i) (l.servers i)
   pub stopped : (i : ℕ) → (g.servers i).stopped ≡ (l.servers i).stopped
   pub over : (i : ℕ) → n ≤ i → (l.servers i).stopped ≡ true
   pub channels : g.channels ≡ l.channels
   pub seats : g.seats ≡ l.seats
   pub sits : (c : ℕ) → (l.seats c).home ≡ slice_index_or homes c n
+
+-- with the numbers of the seats as names
+abbrev pub Same : ℕ → List ℕ → Chain → Chain → Type 0
+Same n homes l g = SameUnder n homes (seat_in homes) l g
 
 beyond : (i n : ℕ) → n ≤ i → not (nat_lt i n) ≡ true
 beyond i n h = elim (cases_Bool (nat_lt i n)) [
@@ -30,9 +35,9 @@ beyond i n h = elim (cases_Bool (nat_lt i n)) [
   | inr above ↦ ap not above
 ]
 
-module _ (n : ℕ) (homes : List ℕ) where
+module _ (n : ℕ) (homes : List ℕ) {names : ℕ → ℕ → ℕ} where
   -- so it is at the start
-  pub same_opening : Same n homes (opening_chain n homes) (opening_chain n homes)
+  pub same_opening : SameUnder n homes names (opening_chain n homes) (opening_chain n homes)
   same_opening = record {
     count = refl;
     servers = λ i within. refl;
@@ -43,7 +48,7 @@ module _ (n : ℕ) (homes : List ℕ) where
     sits = λ c. refl;
   }
 
-module _ (n : ℕ) (homes : List ℕ) (l g : Chain) (h : Same n homes l g) where
+module _ (n : ℕ) (homes : List ℕ) {names : ℕ → ℕ → ℕ} (l g : Chain) (h : SameUnder n homes names l g) where
   -- who goes on is of the chain
   pub of_chain : (i : ℕ) → (l.servers i).stopped ≡ false → i < n
   of_chain i going = elim (cases_lt i n) [
@@ -62,19 +67,19 @@ module _ (n : ℕ) (homes : List ℕ) (l g : Chain) (h : Same n homes l g) where
 
   -- a server changes alike
   pub same_server : (i : ℕ) (s t : RunningServer)
-      → (i < n → t ≡ running_renamed (seat_in homes i) s)
+      → (i < n → t ≡ running_renamed (names i) s)
       → t.stopped ≡ s.stopped
       → ((l.servers i).stopped ≡ true → s.stopped ≡ true)
-      → Same n homes (with_running l i s) (with_running g i t)
+      → SameUnder n homes names (with_running l i s) (with_running g i t)
   same_server i s t alike stays still = record {
     count = h.count;
     servers = λ k within. elim (cases_eq k i) [
-      | inl same ↦ subst (λ x. with_at g.servers i t x ≡ running_renamed (seat_in homes x) (with_at l.servers i s x))
+      | inl same ↦ subst (λ x. with_at g.servers i t x ≡ running_renamed (names x) (with_at l.servers i s x))
           (sym same)
           (at_same g.servers i t ∙ alike (omega (arith, within, same))
-          ∙ ap (running_renamed (seat_in homes i)) (sym (at_same l.servers i s)))
+          ∙ ap (running_renamed (names i)) (sym (at_same l.servers i s)))
       | inr other ↦ at_other g.servers i t k other ∙ h.servers k within
-          ∙ ap (running_renamed (seat_in homes k)) (sym (at_other l.servers i s k other))
+          ∙ ap (running_renamed (names k)) (sym (at_other l.servers i s k other))
     ];
     stopped = λ k. elim (cases_eq k i) [
       | inl same ↦ subst (λ x. (with_at g.servers i t x).stopped ≡ (with_at l.servers i s x).stopped) (sym same)
@@ -95,7 +100,7 @@ module _ (n : ℕ) (homes : List ℕ) (l g : Chain) (h : Same n homes l g) where
   }
 
   -- a channel does,
-  pub same_channel : (i j : ℕ) (ms : List Peer) → Same n homes (with_channel l i j ms) (with_channel g i j ms)
+  pub same_channel : (i j : ℕ) (ms : List Peer) → SameUnder n homes names (with_channel l i j ms) (with_channel g i j ms)
   same_channel i j ms = record {
     count = h.count;
     servers = h.servers;
@@ -107,7 +112,7 @@ module _ (n : ℕ) (homes : List ℕ) (l g : Chain) (h : Same n homes l g) where
   }
 
   -- and a seat that stays at its server
-  pub same_seat : (c : ℕ) (s : Seat) → s.home ≡ (l.seats c).home → Same n homes (with_seat l c s) (with_seat g c s)
+  pub same_seat : (c : ℕ) (s : Seat) → s.home ≡ (l.seats c).home → SameUnder n homes names (with_seat l c s) (with_seat g c s)
   same_seat c s stays = record {
     count = h.count;
     servers = h.servers;
@@ -120,10 +125,10 @@ module _ (n : ℕ) (homes : List ℕ) (l g : Chain) (h : Same n homes l g) where
 
   -- an input comes in alike
   pub same_brought : (i : ℕ) (x y : Input)
-      → (i < n → y ≡ input_at (seat_in homes i) x)
-      → Same n homes (brought l i x) (brought g i y)
+      → (i < n → y ≡ input_at (names i) x)
+      → SameUnder n homes names (brought l i x) (brought g i y)
   same_brought i x y alike =
-      let f = seat_in homes i in
+      let f = names i in
       let inbox = (l.servers i).inbox in
       same_server i (record (l.servers i) { inbox = inbox ++ x ∷ [] })
       (record (g.servers i) { inbox = (g.servers i).inbox ++ y ∷ [] })

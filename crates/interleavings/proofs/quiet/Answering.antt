@@ -4,13 +4,16 @@ use Rattle.std.proofs.Common.{arith, ap, sym, ◌∙◌, subst, append-nil}
 use Rattle.std.specs.Prelude.{slice_get, nat_lt, IsSome}
 use Rattle.std.specs.Option.{option_and_then}
 use Rattle.std.proofs.lemmas.Bool.{and_parts, both_ways, not-true}
+use Rattle.world.specs.Calls.{CallId}
 use Rattle.world.specs.Connections.{Connection}
 use Rattle.world.specs.Worlds.{World, lives, home_lives, run_of}
 use Rattle.world.proofs.waiting.NoneForgotten.{none_forgotten_at_rest}
 use Rattle.interleavings.specs.Chains.{Seat, Chain, opening_chain}
 use Rattle.interleavings.specs.Moves.{Move, moved}
 use Rattle.interleavings.specs.Asked.{AreAsked}
-use Rattle.interleavings.specs.Quiet.{IsQuiet, NoneForgotten}
+use Rattle.interleavings.specs.Orders.{begun_call, reply_to}
+use Rattle.interleavings.specs.Pools.{HasNothingLeft}
+use Rattle.interleavings.specs.Quiet.{goes_on, IsQuiet, NoneForgotten}
 use Rattle.interleavings.proofs.relation.StandsFor.{IsSeat, Sits, StandsFor, lives_on}
 use Rattle.interleavings.proofs.relation.Opening.{opens}
 use Rattle.interleavings.proofs.relation.Following.{follows}
@@ -43,14 +46,29 @@ by_seat l w p s (Some k) h g going none f begun =
 fourfold : (n m b : ℕ) → n ≤ m * 4 → m < b → n < b * 4
 fourfold n m b e f = omega (arith, e, f)
 
--- no call is forgotten
-pub none_forgotten : (count : ℕ) (homes : List ℕ) (moves : List Move)
+-- a quiet chain has nothing left to do
+pub nothing_left : (l : Chain) → IsQuiet l → HasNothingLeft l
+nothing_left l q = record {
+  inboxes = q.inboxes;
+  all_published = q.all_published;
+  messages = q.messages;
+  replies = q.replies;
+  views = q.views;
+  channels = q.channels;
+}
+
+-- no call is forgotten, of a seat whose queue is empty
+pub none_forgotten_there : (count : ℕ) (homes : List ℕ) (moves : List Move)
     → count ≤ 16
     → length moves < 2 ^ 62
     → AreAsked moves
-    → IsQuiet (moved count homes moves)
-    → NoneForgotten (moved count homes moves)
-none_forgotten count homes moves few short asked quiet x on begun =
+    → HasNothingLeft (moved count homes moves)
+    → (x : CallId)
+    → goes_on (moved count homes moves) ((moved count homes moves).seats x.connection).home ≡ true
+    → ((moved count homes moves).seats x.connection).queued ≡ []
+    → IsSome (begun_call (moved count homes moves) x)
+    → IsSome (reply_to (moved count homes moves) x)
+none_forgotten_there count homes moves few short asked quiet x on empty begun =
     let l = moved count homes moves in
     let f = follows count homes (simulates count homes few) moves (opening_chain count homes) [] (opens count homes)
     asked in
@@ -58,9 +76,19 @@ none_forgotten count homes moves few short asked quiet x on begun =
     let going = not-true _ (and_parts (nat_lt (l.seats x.connection).home l.count) _ on).1 in
     let rests = resting l w f.2 quiet (known count homes f.0 few).named in
     by_seat l w x.ordinal (l.seats x.connection) (slice_get w.connections x.connection) f.2 (f.2.seats x.connection)
-    going
-    (quiet.queues x.connection on)
+    going empty
     (λ there alive.
     none_forgotten_at_rest count homes f.0 few (fourfold (length f.0) (length moves) (2 ^ 62) f.1 short) rests x
     there alive)
     begun
+
+-- so none is, in a quiet chain
+pub none_forgotten : (count : ℕ) (homes : List ℕ) (moves : List Move)
+    → count ≤ 16
+    → length moves < 2 ^ 62
+    → AreAsked moves
+    → IsQuiet (moved count homes moves)
+    → NoneForgotten (moved count homes moves)
+none_forgotten count homes moves few short asked quiet x on begun =
+    none_forgotten_there count homes moves few short asked (nothing_left (moved count homes moves) quiet) x on
+    (quiet.queues x.connection on) begun

@@ -1,4 +1,4 @@
--- The world that stands for a quiet chain is at rest.
+-- The world that stands for a quiet chain is at rest, whatever stands in seats' queues.
 use Rattle.std.proofs.Common.{◌≡◌, ℕ, ◌<◌, Bool, true, false, cond, [], ◌++◌, length, Option, None, Some}
 use Rattle.std.proofs.Common.{refl, arith, ap, sym, ◌∙◌, subst, inl, inr, eq-eqb}
 use Rattle.std.specs.Prelude.{slice_get, not, nat_lt, ◌&&◌, ◌==◌}
@@ -15,7 +15,8 @@ use Rattle.world.proofs.trace.IdLaws.{living_parts}
 use Rattle.world.proofs.waiting.NoneForgotten.{IsResting}
 use Rattle.interleavings.specs.Chains.{Chain, messages_from, messages_to, calls_from}
 use Rattle.interleavings.specs.Moves.{has_stopped}
-use Rattle.interleavings.specs.Quiet.{goes_on, IsQuiet}
+use Rattle.interleavings.specs.Quiet.{goes_on}
+use Rattle.interleavings.specs.Pools.{HasNothingLeft}
 use Rattle.interleavings.proofs.relation.StandsFor.{listed, queue, call_at, reply_at, Tallies, Sits, StandsFor}
 
 no_more : (b : Bool) → (b && false) ≡ false
@@ -47,7 +48,7 @@ stopped_by : (n k : ℕ) (failed stopped : Bool)
 stopped_by n k failed stopped e f =
     not-false stopped (sym e ∙ ap (λ b. nat_lt k n && not b) f ∙ no_more (nat_lt k n))
 
-module _ (l : Chain) (w : World) (h : StandsFor l w) (q : IsQuiet l)
+module _ (l : Chain) (w : World) (h : StandsFor l w) (q : HasNothingLeft l)
     (named : (i k : ℕ) → i < length w.servers → has (server w i).view k ≡ true → has w.failed k ≡ true) where
   going : (i : ℕ) → lives w i ≡ true → (l.servers i).stopped ≡ false
   going i a = not-true _ (sym (h.lives i) ∙ a)

@@ -211,6 +211,11 @@ module _ (count : ℕ) (homes : List ℕ) (sim : Simulates count homes) where
       let one = sim es l m h asked.0 in
       behind_from ms (done l m) (es ++ one.0) c one.2 asked.1 (behind_then es l m c h one b)
 
+  -- after a run the calls of a seat that wait come after those that have replies
+  pub waits_behind : (ms : List Move) (c : ℕ) → AreAsked ms → WaitsBehind (moved count homes ms) c
+  waits_behind ms c asked =
+      behind_from ms (opening_chain count homes) [] c (opens count homes) asked (omega arith)
+
   -- a call that has its reply is published
   pub replied_published : (ms : List Move) (x : CallId)
       → AreAsked ms

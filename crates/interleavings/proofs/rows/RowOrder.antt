@@ -71,7 +71,7 @@ module _ (does : Doing) (count : ℕ) (homes : List ℕ) (moves : List ServingMo
   at_last = ap (served does count homes) (take_all (length moves) moves (omega arith))
 
   -- a part that had asked all then makes no call any more
-  no_more : (p : PartName) (k : ℕ)
+  pub no_more : (p : PartName) (k : ℕ)
       → HasAsked (part_at last p).read (part_at (front k) p)
       → (length (part_at last p).calls ≤ length (part_at (front k) p).calls)
       × HasAsked (part_at last p).read (part_at last p)

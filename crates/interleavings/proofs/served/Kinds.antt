@@ -62,7 +62,7 @@ reply_kind item (Decr amount) number fits = (decided item (Decr amount) number f
 reply_kind item Delete number fits = (decided item Delete number fits refl).answered
 reply_kind item Flush number fits = (decided item Flush number fits refl).answered
 
-legal_kind : (t : PlainTable) (h : List (Call × Reply)) (i : ℕ) (x : Call × Reply)
+pub legal_kind : (t : PlainTable) (h : List (Call × Reply)) (i : ℕ) (x : Call × Reply)
     → IsLegalFrom t h
     → slice_get h i ≡ Some x
     → Fits x.0.op

@@ -1,18 +1,22 @@
 -- There is one order of all connections' calls: that of the seats' calls, each by the name of its connection.
-use Rattle.std.proofs.Common.{◌≡◌, ℕ, ◌^◌, ◌<◌, ◌≤◌, List, length, map, refl, arith, sym, ◌∙◌}
-use Rattle.std.specs.Prelude.{slice_get}
+use Rattle.std.proofs.Common.{◌≡◌, ℕ, ◌^◌, ◌<◌, ◌≤◌, true, List, [], length, map, refl, arith, sym, ◌∙◌, subst}
+use Rattle.std.specs.Prelude.{slice_get, IsSome}
 use Rattle.table.specs.Plain.{opening as empty_table}
 use Rattle.interleavings.specs.Moves.{Move, moved, done}
 use Rattle.interleavings.specs.Asked.{AreAsked}
-use Rattle.interleavings.specs.Quiet.{IsQuiet}
+use Rattle.interleavings.specs.Chains.{Chain}
+use Rattle.interleavings.specs.Pools.{HasNothingLeft}
+use Rattle.interleavings.specs.Quiet.{goes_on, IsQuiet}
 use Rattle.interleavings.specs.ServingMoves.{ServingChain, ServingMove, served, opening_serving}
 use Rattle.interleavings.specs.Served.{IsServed, ServedCall, IsOneOrder, IsServedInTurn, NoneUnanswered, AllHaveAll}
+use Rattle.interleavings.specs.Served.{CallName, call_made, reply_got, IsRested, HasAll}
 use Rattle.interleavings.specs.ServedFrom.{IsOneOrderFrom}
 use Rattle.interleavings.proofs.relation.Following.{linearizable}
 use Rattle.interleavings.proofs.runs.Simulating.{simulates}
-use Rattle.interleavings.proofs.quiet.Answering.{none_forgotten}
+use Rattle.interleavings.proofs.quiet.Answering.{none_forgotten, none_forgotten_there}
 use Rattle.interleavings.proofs.served.Steps.{IsInOrder}
 use Rattle.interleavings.proofs.served.Along.{opening_order}
+use Rattle.interleavings.proofs.served.Names.{ordinal_of}
 use Rattle.interleavings.proofs.served.OrderFromStart as from_start
 use Rattle.interleavings.proofs.served.OrderFromStart.{named, from_opening}
 
@@ -92,6 +96,36 @@ module _ (count : ℕ) (homes : List ℕ) (moves : List ServingMove) where
       → IsQuiet (served done count homes moves).chain
       → AllHaveAll (served done count homes moves)
   all_have_all few short quiet = from_start.all_have_all first opened moves (none_unanswered few short quiet)
+
+  -- a call has its reply if nothing is left to do but for seats' queues, and that of its seat is empty;
+  pub answered_there : count ≤ 16
+      → length moves < 2 ^ 62
+      → HasNothingLeft (served done count homes moves).chain
+      → (x : CallName)
+      → goes_on (served done count homes moves).chain ((served done count homes moves).chain.seats x.seat).home ≡ true
+      → ((served done count homes moves).chain.seats x.seat).queued ≡ []
+      → IsSome (call_made (served done count homes moves) x)
+      → IsSome (reply_got (served done count homes moves) x)
+  answered_there few short left x on empty made =
+      let same = from_start.same_chain first opened moves in
+      from_start.has_its_reply first opened moves x
+      (none_forgotten_there count homes run few
+      (fewer (length run) (length moves) (2 ^ 62) (from_start.run_short first opened moves) short)
+      (from_start.run_asked first opened moves) (subst HasNothingLeft same left)
+      (ordinal_of (served done count homes moves) x)
+      (subst (λ l. goes_on l (l.seats x.seat).home ≡ true) same on)
+      (subst (λ (l : Chain). (l.seats x.seat).queued ≡ []) same empty))
+      made
+
+  -- and a connection at which nothing is left to do has all if its next call has its reply, should it be made
+  pub has_all_there : (c n : ℕ)
+      → (IsSome (call_made (served done count homes moves)
+      (record { seat = c; number = n; ordinal = length ((served done count homes moves).connections c n).replies }))
+      → IsSome (reply_got (served done count homes moves)
+      (record { seat = c; number = n; ordinal = length ((served done count homes moves).connections c n).replies })))
+      → IsRested ((served done count homes moves).connections c n)
+      → HasAll ((served done count homes moves).connections c n)
+  has_all_there c n none rested = from_start.has_all_there first opened moves c n none rested
 
   -- and its servers make a run of moves
   pub is_run : (ms : List Move) × AreAsked ms × ((served done count homes moves).chain ≡ moved count homes ms)

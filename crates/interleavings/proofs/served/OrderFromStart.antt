@@ -23,6 +23,7 @@ use Rattle.interleavings.specs.Quiet.{goes_on, IsQuiet, NoneForgotten}
 use Rattle.interleavings.specs.Restored.{table_after}
 use Rattle.interleavings.specs.OrdersFrom.{PrecedesFrom, IsLinearizationFrom, IsHeld, LeavesWhatIsHeld}
 use Rattle.interleavings.specs.ServingMoves.{ServingChain, ServingMove, served_from}
+use Rattle.interleavings.specs.Served.{IsRested, HasAll}
 use Rattle.interleavings.specs.Served.{IsServed, CallName, call_made, reply_got, ServedCall, StandsThere}
 use Rattle.interleavings.specs.Served.{is_call_published, IsMadeUpdate, IsEarlier, NoneUnanswered, AllHaveAll}
 use Rattle.interleavings.specs.ServedFrom.{ComesBeforeFrom, IsOneOrderFrom, LeavesWhatIsServed}
@@ -347,6 +348,26 @@ module _ (first : ServingChain) (opened : IsInOrder first) (moves : List Serving
       o.in_time x y j
       (own_before none x y s.entry.call own
       (subst (λ z. call_made last z ≡ Some s.entry.call) s.named (o.made j s.entry s.here))) s
+
+  -- a call that was made has its reply if its seat has it,
+  pub has_its_reply : (x : CallName)
+      → (IsSome (begun_call (moved_from first.chain run) (ordinal_of last x))
+      → IsSome (reply_to (moved_from first.chain run) (ordinal_of last x)))
+      → IsSome (call_made last x)
+      → IsSome (reply_got last x)
+  has_its_reply x there made =
+      let m = some_of (call_made last x) made in
+      subst IsSome (ap (λ l. reply_to l (ordinal_of last x)) (sym same_chain) ∙ sym (same_reply last ordered x m.0 m.1))
+      (there (is_some _ m.0 (ap (λ l. begun_call l (ordinal_of last x)) (sym same_chain)
+      ∙ begun_there last ordered x m.0 m.1)))
+
+  -- and a connection at which nothing is left to do has all if its next call has one, should it be made
+  pub has_all_there : (c n : ℕ)
+      → (IsSome (call_made last (record { seat = c; number = n; ordinal = length (last.connections c n).replies }))
+      → IsSome (reply_got last (record { seat = c; number = n; ordinal = length (last.connections c n).replies })))
+      → IsRested (last.connections c n)
+      → HasAll (last.connections c n)
+  has_all_there c n none rested = has_all (last.connections c n) (ordered.connected c n) none rested
 
   -- and no call is unanswered in a quiet chain
   pub none_unanswered : (IsQuiet (moved_from first.chain run) → NoneForgotten (moved_from first.chain run))

@@ -24,8 +24,31 @@ use Rattle.interleavings.specs.Served.{id_at_seat, is_call_published, PublishedF
 use Rattle.interleavings.proofs.ports.OwnPortMoves.{named, sends_same, receives_same, looks_same}
 use Rattle.interleavings.proofs.ports.OwnPortRuns.{moves_same}
 use Rattle.interleavings.proofs.ports.OwnPortTurns.{published_same}
-use Rattle.interleavings.proofs.ports.RenamedChains.{Same, of_chain, same_opening}
+use Rattle.interleavings.proofs.ports.RenamedChains.{Same, SameUnder, of_chain, same_opening}
 use Rattle.interleavings.proofs.served.OneOrder.{each_is_served, one_order}
+
+module _ (n : ℕ) (homes : List ℕ) {names : ℕ → ℕ → ℕ} (l g : Chain) (h : SameUnder n homes names l g) where
+  -- a look shows the same under any names of ports
+  pub look_alike : (c : ℕ) (key : List ℕ) → look_reply g c key ≡ look_reply l c key
+  look_alike c key =
+      let i = (l.seats c).home in
+      subst (λ (ss : ℕ → Seat).
+      cond (is_free (ss c) && not (g.servers (ss c).home).stopped)
+      (reply_by (look_at (face_of (g.servers (ss c).home).node) key)) None
+      ≡ look_reply l c key) (sym h.seats)
+      (subst (λ b.
+      cond (is_free (l.seats c) && not b) (reply_by (look_at (face_of (g.servers i).node) key)) None
+      ≡ look_reply l c key) (sym (h.stopped i)) (by_guard (is_free (l.seats c) && not (l.servers i).stopped) refl))
+    where
+      by_guard : (b : Bool)
+          → (is_free (l.seats c) && not (l.servers (l.seats c).home).stopped) ≡ b
+          → cond b (reply_by (look_at (face_of (g.servers (l.seats c).home).node) key)) None
+          ≡ cond b (reply_by (look_at (face_of (l.servers (l.seats c).home).node) key)) None
+      by_guard true e =
+          let within = of_chain n homes l g h (l.seats c).home
+          (not-true _ (and_parts (is_free (l.seats c)) _ e).1) in
+          ap (λ (u : RunningServer). reply_by (look_at (face_of u.node) key)) (h.servers (l.seats c).home within)
+      by_guard false e = refl
 
 module _ (n : ℕ) (homes : List ℕ) where
   -- Both serve the same connections, and their chains do the same.
@@ -79,30 +102,6 @@ module _ (n : ℕ) (homes : List ℕ) where
         (record { chains = sends_same n homes s.chain g h c call; ended = refl; connections = refl })
         (record { chains = h; ended = refl; connections = refl }))
 
-    -- a look shows the same
-    look_alike : (c : ℕ) (key : List ℕ) → look_reply g c key ≡ look_reply s.chain c key
-    look_alike c key =
-        let l = s.chain in
-        let i = (l.seats c).home in
-        subst (λ (ss : ℕ → Seat).
-        cond (is_free (ss c) && not (g.servers (ss c).home).stopped)
-        (reply_by (look_at (face_of (g.servers (ss c).home).node) key)) None
-        ≡ look_reply l c key) (sym h.seats)
-        (subst (λ b.
-        cond (is_free (l.seats c) && not b) (reply_by (look_at (face_of (g.servers i).node) key)) None
-        ≡ look_reply l c key) (sym (h.stopped i)) (by_guard (is_free (l.seats c) && not (l.servers i).stopped) refl))
-      where
-        by_guard : (b : Bool)
-            → (is_free (s.chain.seats c) && not (s.chain.servers (s.chain.seats c).home).stopped) ≡ b
-            → cond b (reply_by (look_at (face_of (g.servers (s.chain.seats c).home).node) key)) None
-            ≡ cond b (reply_by (look_at (face_of (s.chain.servers (s.chain.seats c).home).node) key)) None
-        by_guard true e =
-            let within = of_chain n homes s.chain g h (s.chain.seats c).home
-            (not-true _ (and_parts (is_free (s.chain.seats c)) _ e).1) in
-            ap (λ (u : RunningServer). reply_by (look_at (face_of u.node) key))
-            (h.servers (s.chain.seats c).home within)
-        by_guard false e = refl
-
     peeked_alike : (c : ℕ) (key : List ℕ) (reply : Option Reply)
         → SameServing (peeked own s c key reply) (peeked done other c key reply)
     peeked_alike c key None = record { chains = h; ended = refl; connections = refl }
@@ -113,7 +112,7 @@ module _ (n : ℕ) (homes : List ℕ) where
     peeks_alike c None = record { chains = h; ended = refl; connections = refl }
     peeks_alike c (Some key) =
         subst (λ r. SameServing (peeked own s c key (look_reply s.chain c key)) (peeked done other c key r))
-        (sym (look_alike c key)) (peeked_alike c key (look_reply s.chain c key))
+        (sym (look_alike n homes s.chain g h c key)) (peeked_alike c key (look_reply s.chain c key))
 
     refuses_alike : (c : ℕ) (due : Option Call) → SameServing (refusing s c due) (refusing other c due)
     refuses_alike c None = record { chains = h; ended = refl; connections = refl }
