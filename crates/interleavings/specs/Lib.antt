@@ -19,3 +19,5 @@ pub mod ServedFrom
 pub mod WorkedServing
 pub mod WorkedRows
 pub mod WorkedStarts
+pub mod LeasedMoves
+pub mod LeasedOrders

@@ -5,6 +5,7 @@ mod laws;
 mod starts;
 pub mod worked;
 pub mod worked_starts;
+mod leased_servers;
 
 pub use laws::{
     answered_calls_are_published, asked_calls_are_spelled, clients_see_one_table,
@@ -17,3 +18,4 @@ pub use starts::{
     restored_chains_are_reached, restored_chains_forget_no_call, restored_runs_are_linearizable,
     tables_are_reached,
 };
+pub use leased_servers::{leased_servers_are_stopped};

@@ -1,0 +1,4 @@
+-- Servers with leases: one that was called gone is as good as stopped.
+pub mod SeatGrowth
+pub mod HomePorts
+pub mod Beside
