@@ -2,3 +2,4 @@
 pub mod SeatGrowth
 pub mod HomePorts
 pub mod Beside
+pub mod BesideMoves

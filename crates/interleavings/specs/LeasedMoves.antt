@@ -1,7 +1,7 @@
 -- Runs of servers with leases. A master may call a server gone that goes on: others are told so, while the server takes
 -- inputs, publishes, is looked at and puts out as before.
-use Rattle.std.specs.Prelude.{ℕ, suc, ◌+◌, Bool, true, false, ◌||◌, nat_lt, List, [], ◌∷◌, length, take, Option}
-use Rattle.std.specs.Prelude.{slice_index_or, slice_get, if◌then◌else◌}
+use Rattle.std.specs.Prelude.{ℕ, suc, ◌+◌, Bool, true, false, not, ◌&&◌, ◌||◌, nat_lt, List, [], ◌∷◌, length, take}
+use Rattle.std.specs.Prelude.{Option, slice_index_or, slice_get, if◌then◌else◌}
 use Rattle.table.specs.declared.operations.Reply.{Reply}
 use Rattle.node.specs.declared.messages.Peer.{Peer}
 use Rattle.node.specs.declared.messages.Input.TheVariants.{Gone}
@@ -48,11 +48,15 @@ counted arrived l (Arrives i j) =
     with_at arrived i (with_at (arrived i) j (arrived i j + first_alone (l.channels i j)))
 counted arrived l m = arrived
 
+-- server i goes on, and wasn't called gone before
+abbrev pub may_be_called : LeasedChain → ℕ → Bool
+may_be_called s i = goes_on s.chain i && not (s.called i)
+
 -- what a move does. One that doesn't apply has no effect.
 abbrev pub leased_by : LeasedChain → LeasedMove → LeasedChain
 leased_by s (Does m) =
     record s { chain = with_leases s.called s.chain m; arrived = counted s.arrived s.chain m }
-leased_by s (Calls i) = if goes_on s.chain i then record s { called = with_at s.called i true } else s
+leased_by s (Calls i) = if may_be_called s i then record s { called = with_at s.called i true } else s
 leased_by s (Writes c) =
     if nat_lt (s.written c) (length (s.chain.seats c).got)
     then record s { written = with_at s.written c (suc (s.written c)) }

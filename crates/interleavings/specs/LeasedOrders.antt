@@ -11,8 +11,8 @@ use Rattle.interleavings.specs.Chains.{Chain}
 use Rattle.interleavings.specs.Moves.{Move, Sends, Takes, Publishes, Puts, Arrives, Replies, Receives, Looks, Stops}
 use Rattle.interleavings.specs.Moves.{Notices}
 use Rattle.interleavings.specs.Orders.{begun_call, reply_to, is_published, IsUpdate}
-use Rattle.interleavings.specs.LeasedMoves.{LeasedChain, LeasedMove, Does, Calls, Writes, opening_leased, leased_by}
-use Rattle.interleavings.specs.LeasedMoves.{leased, home_of, put_for, reply_written}
+use Rattle.interleavings.specs.LeasedMoves.{LeasedChain, LeasedMove, Does, Calls, Writes, opening_leased}
+use Rattle.interleavings.specs.LeasedMoves.{may_be_called, leased_by, leased, home_of, put_for, reply_written}
 
 -- ---- what is asked
 
@@ -50,7 +50,7 @@ mover home (Notices i j) = i
 -- is no move of the running chain
 abbrev pub kept : (ℕ → ℕ) → LeasedChain → LeasedMove → List Move
 kept home s (Does m) = if s.called (mover home m) then [] else m ∷ []
-kept home s (Calls i) = if s.called i then [] else Stops i ∷ []
+kept home s (Calls i) = if may_be_called s i then Stops i ∷ [] else []
 kept home s (Writes c) = []
 
 -- what is left of these, one after another
