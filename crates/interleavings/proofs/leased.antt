@@ -3,3 +3,5 @@ pub mod SeatGrowth
 pub mod HomePorts
 pub mod Beside
 pub mod BesideMoves
+pub mod LaterChains
+pub mod StoppedRuns
