@@ -5,3 +5,4 @@ pub mod Beside
 pub mod BesideMoves
 pub mod LaterChains
 pub mod StoppedRuns
+pub mod WrittenOrders

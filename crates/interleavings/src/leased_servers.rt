@@ -19,3 +19,15 @@ pub fn leased_servers_are_stopped()
         → AreAskedLeased moves
         → AreAsked (as_stopped count homes moves) }
 {}
+
+/// Clients of a chain whose servers have leases see one table: if all that servers put out was made up before they were
+/// called gone, one order of calls explains all that clients were written, whatever servers that were called gone do
+/// besides. Of two updates at one server the one whose step was published first stands first in it, if the server
+/// wasn't called gone by then.
+pub fn leased_runs_have_one_order()
+    ensures { (count : ℕ) (homes : List ℕ) (moves : List LeasedMove)
+        → count ≤ 16
+        → AreAskedLeased moves
+        → IsLeased count homes moves
+        → (h : List OrderedCall) × IsOrderOfWritten count homes moves h × IsInTurnWritten count homes moves h }
+{}

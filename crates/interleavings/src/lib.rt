@@ -18,4 +18,4 @@ pub use starts::{
     restored_chains_are_reached, restored_chains_forget_no_call, restored_runs_are_linearizable,
     tables_are_reached,
 };
-pub use leased_servers::{leased_servers_are_stopped};
+pub use leased_servers::{leased_runs_have_one_order, leased_servers_are_stopped};
