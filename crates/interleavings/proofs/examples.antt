@@ -19,3 +19,8 @@ pub mod PipelinedSets
 pub mod OvertakenSet
 pub mod Starts
 pub mod HandedOver
+pub mod LeasedParts
+pub mod MissedWritten
+pub mod LateWrites
+pub mod LateMessages
+pub mod LapsedServer

@@ -6,3 +6,4 @@ pub mod BesideMoves
 pub mod LaterChains
 pub mod StoppedRuns
 pub mod WrittenOrders
+pub mod Uncalled

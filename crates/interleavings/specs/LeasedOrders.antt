@@ -16,20 +16,28 @@ use Rattle.interleavings.specs.LeasedMoves.{may_be_called, leased_by, leased, ho
 
 -- ---- what is asked
 
--- All that a server puts out was made up before it was called gone:
+-- All replies that the client of seat c was written in this run the seat had after some first k moves, among which its
+-- server isn't called gone.
+abbrev pub AreRepliesLeased : ℕ → List ℕ → List LeasedMove → ℕ → Type 0
+AreRepliesLeased count homes moves c =
+    (k : ℕ)
+    × ((leased count homes (take k moves)).called (home_of count homes c) ≡ false)
+    × ((leased count homes moves).written c ≤ length ((leased count homes (take k moves)).chain.seats c).got)
+
+-- All messages of server i that arrived at server j in this run it had put after some first k moves, among which it
+-- isn't called gone.
+abbrev pub AreMessagesLeased : ℕ → List ℕ → List LeasedMove → ℕ → ℕ → Type 0
+AreMessagesLeased count homes moves i j =
+    (k : ℕ)
+    × ((leased count homes (take k moves)).called i ≡ false)
+    × ((leased count homes moves).arrived i j ≤ put_for (leased count homes (take k moves)) i j)
+
+-- All that servers put out was made up before they were called gone. So it is if each write, to a client or to another
+-- server, asks first whether the lease still holds: `machines_look_before_tellings` of `leases` says that what such a
+-- write takes was made up before anybody else was told that the server is gone.
 pub record IsLeased (count : ℕ) (homes : List ℕ) (moves : List LeasedMove) : Type 0 where
-  -- the replies that the client of a seat was written in this run the seat had after some first k moves, among which its
-  -- server isn't called gone;
-  pub replies : (c : ℕ)
-      → (k : ℕ)
-      × ((leased count homes (take k moves)).called (home_of count homes c) ≡ false)
-      × ((leased count homes moves).written c ≤ length ((leased count homes (take k moves)).chain.seats c).got)
-  -- and the messages of server i that arrived at j it had put after some first k moves, among which it isn't called
-  -- gone.
-  pub messages : (i j : ℕ)
-      → (k : ℕ)
-      × ((leased count homes (take k moves)).called i ≡ false)
-      × ((leased count homes moves).arrived i j ≤ put_for (leased count homes (take k moves)) i j)
+  pub replies : (c : ℕ) → AreRepliesLeased count homes moves c
+  pub messages : (i j : ℕ) → AreMessagesLeased count homes moves i j
 
 -- ---- the run in which they stop
 

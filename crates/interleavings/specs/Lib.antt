@@ -21,3 +21,4 @@ pub mod WorkedRows
 pub mod WorkedStarts
 pub mod LeasedMoves
 pub mod LeasedOrders
+pub mod WorkedLeases

@@ -6,6 +6,7 @@ mod starts;
 pub mod worked;
 pub mod worked_starts;
 mod leased_servers;
+pub mod worked_leases;
 
 pub use laws::{
     answered_calls_are_published, asked_calls_are_spelled, clients_see_one_table,

@@ -196,7 +196,7 @@ opening_owns : (home : ℕ → ℕ) (count : ℕ) (homes : List ℕ) (i : ℕ)
 opening_owns home count homes i = record { node = refl; inbox = tt; unpublished = tt; outbox = tt }
 
 -- no client is written more replies than its seat has
-written_along : (ms : List LeasedMove) (s : LeasedChain)
+pub written_along : (ms : List LeasedMove) (s : LeasedChain)
     → ((c : ℕ) → s.written c ≤ length (s.chain.seats c).got)
     → (c : ℕ)
     → (leased_from s ms).written c ≤ length ((leased_from s ms).chain.seats c).got
