@@ -7,3 +7,4 @@ pub mod LaterChains
 pub mod StoppedRuns
 pub mod WrittenOrders
 pub mod Uncalled
+pub mod ServingBeside

@@ -21,4 +21,5 @@ pub mod WorkedRows
 pub mod WorkedStarts
 pub mod LeasedMoves
 pub mod LeasedOrders
+pub mod LeasedServing
 pub mod WorkedLeases

@@ -5,6 +5,9 @@ ghost use Rattle.interleavings.specs.Asked.{AreAsked};
 ghost use Rattle.interleavings.specs.Moves.{moved};
 ghost use Rattle.interleavings.specs.LeasedMoves.{LeasedMove, leased, AreAskedLeased};
 ghost use Rattle.interleavings.specs.LeasedOrders.{IsLeased, as_stopped, IsSeenAs, IsOrderOfWritten, IsInTurnWritten};
+ghost use Rattle.interleavings.specs.LeasedServing.{LeasedServingMove, IsLeasedServing, IsOrderBeforeGone};
+ghost use Rattle.interleavings.specs.LeasedServing.{IsWrittenBeforeGone};
+ghost use Rattle.interleavings.specs.Served.{ServedCall};
 ghost use Rattle.world.specs.Orders.{OrderedCall};
 
 /// A server that was called gone and goes on is as good as one that has stopped: if all that servers put out was made
@@ -30,4 +33,18 @@ pub fn leased_runs_have_one_order()
         → AreAskedLeased moves
         → IsLeased count homes moves
         → (h : List OrderedCall) × IsOrderOfWritten count homes moves h × IsInTurnWritten count homes moves h }
+{}
+
+/// From bytes of clients to bytes of clients, if servers have leases.
+pub fn clients_of_leased_servers_see_one_table()
+    // One order of the calls of all connections explains each reply that a connection got before its server was called
+    // gone.
+    ensures order { (count : ℕ) (homes : List ℕ) (moves : List LeasedServingMove)
+        → count ≤ 16
+        → IsLeasedServing count homes moves
+        → (h : List ServedCall) × IsOrderBeforeGone count homes moves h }
+    // What is written to a connection are the texts of its turns, with such replies.
+    ensures bytes { (count : ℕ) (homes : List ℕ) (moves : List LeasedServingMove) (c n : ℕ)
+        → IsLeasedServing count homes moves
+        → IsWrittenBeforeGone count homes moves c n }
 {}

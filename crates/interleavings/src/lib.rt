@@ -2,11 +2,11 @@
 #![tactic(auto)]
 
 mod laws;
+mod leased_servers;
 mod starts;
 pub mod worked;
-pub mod worked_starts;
-mod leased_servers;
 pub mod worked_leases;
+pub mod worked_starts;
 
 pub use laws::{
     answered_calls_are_published, asked_calls_are_spelled, clients_see_one_table,
@@ -14,9 +14,11 @@ pub use laws::{
     ports_are_names, seats_may_have_own_ports, served_seats_may_have_own_ports,
     without_refusals_all_is_replied,
 };
+pub use leased_servers::{
+    clients_of_leased_servers_see_one_table, leased_runs_have_one_order, leased_servers_are_stopped,
+};
 pub use starts::{
     clients_see_one_table_from_a_start, every_life_has_one_order, held_tables_are_reached,
     restored_chains_are_reached, restored_chains_forget_no_call, restored_runs_are_linearizable,
     tables_are_reached,
 };
-pub use leased_servers::{leased_runs_have_one_order, leased_servers_are_stopped};

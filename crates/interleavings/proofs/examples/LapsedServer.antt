@@ -182,8 +182,8 @@ other_asked = record { fits = lit≤ tt; suits = refl; target = refl; numbers = 
 -- clients can ask these calls,
 pub lapsed_asked : AreAskedLeased lapsed_moves
 unfolding tail_is_called tail_goes_on before_outlived_look
-lapsed_asked = (tt, (tt, (tt, (tt, (set_asked, (tt, (tt, (tt, (tt, (tt, (other_asked, (tt, (tt, (tt, (get_asked,
-    tt)))))))))))))))
+lapsed_asked =
+    (tt, (tt, (tt, (tt, (set_asked, (tt, (tt, (tt, (tt, (tt, (other_asked, (tt, (tt, (tt, (get_asked, tt)))))))))))))))
 
 -- and there is an order
 pub lapsed_order : (h : List OrderedCall) × IsOrderOfWritten 2 lapsed_homes lapsed_moves h
