@@ -8,3 +8,4 @@ pub mod StoppedRuns
 pub mod WrittenOrders
 pub mod Uncalled
 pub mod ServingBeside
+pub mod StoppedServing

@@ -33,7 +33,7 @@ pub record ConnectionsBeside (home : ℕ → ℕ) (called : ℕ → Bool) (s d :
   pub calls : (c n : ℕ) → IsBegunBy (s.connections c n).calls (d.connections c n).calls
 
 -- a move of a seat doesn't count arrivals
-seat_counts : (arrived : ℕ → ℕ → ℕ) (l : Chain) (m : Move) → is_of_seat m ≡ true → counted arrived l m ≡ arrived
+pub seat_counts : (arrived : ℕ → ℕ → ℕ) (l : Chain) (m : Move) → is_of_seat m ≡ true → counted arrived l m ≡ arrived
 seat_counts arrived l (Sends c call) e = refl
 seat_counts arrived l (Takes i sender) e = refl
 seat_counts arrived l (Publishes i) e = refl

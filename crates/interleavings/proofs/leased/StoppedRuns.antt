@@ -191,7 +191,8 @@ module _ (home : ℕ → ℕ) (most_arrived : ℕ → ℕ → ℕ) (most_got : �
 
 -- ---- from the start on
 
-opening_owns : (home : ℕ → ℕ) (count : ℕ) (homes : List ℕ) (i : ℕ)
+-- no server of an opening chain has a call or a reply
+pub opening_owns : (home : ℕ → ℕ) (count : ℕ) (homes : List ℕ) (i : ℕ)
     → Owns (at_home home i) ((opening_chain count homes).servers i)
 opening_owns home count homes i = record { node = refl; inbox = tt; unpublished = tt; outbox = tt }
 

@@ -58,14 +58,15 @@ taken_begun xs ys p x b e l =
     let same : f.0 ≡ x = same_Some f.0 x (sym there ∙ e) in
     f.1 ∙ ap (λ y. Some y) same
 
-get_later : {X : Type 0} (xs ys : List X) (p : ℕ) (x : X)
+-- what stands in a list stands in one that it begins
+pub get_later : {X : Type 0} (xs ys : List X) (p : ℕ) (x : X)
     → IsBegunBy ys xs
     → slice_get xs p ≡ Some x
     → slice_get ys p ≡ Some x
 get_later xs ys p x b e = ap (λ us. slice_get us p) b.all ∙ get_front xs b.more p x e
 
 -- what has nothing later has nothing before
-none_of : {X : Type 0} (o p : Option X) → ((x : X) → o ≡ Some x → p ≡ Some x) → p ≡ None → o ≡ None
+pub none_of : {X : Type 0} (o p : Option X) → ((x : X) → o ≡ Some x → p ≡ Some x) → p ≡ None → o ≡ None
 none_of None p f h = refl
 none_of (Some x) p f h = absurd (let no : Some x ≡ None = sym (f x refl) ∙ h in cc)
 
