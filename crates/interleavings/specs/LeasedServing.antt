@@ -1,19 +1,17 @@
 -- Chains whose servers have leases and serve connections: one that was called gone may go on with all of it. What is
 -- asked of them, and the one order of the calls whose replies connections are written.
 use Rattle.std.specs.Prelude.{◌≡◌, ℕ, ◌+◌, ◌<◌, ◌≤◌, Bool, true, false, not, ◌&&◌, List, [], ◌∷◌, ◌++◌, length, take, map}
-use Rattle.std.specs.Prelude.{Option, None, Some, slice_get, IsSome, if◌then◌else◌}
+use Rattle.std.specs.Prelude.{None, Some, slice_get, IsSome, if◌then◌else◌}
 use Rattle.table.specs.Histories.{IsLegal}
-use Rattle.table.specs.declared.operations.Call.{Call}
 use Rattle.table.specs.declared.operations.Reply.{Reply}
 use Rattle.proto.specs.Streams.{turns, outcome_texts}
 use Rattle.interleavings.specs.Chains.{Chain, with_at}
-use Rattle.interleavings.specs.Moves.{Move, Stops, done}
+use Rattle.interleavings.specs.Moves.{Stops}
 use Rattle.interleavings.specs.Quiet.{goes_on}
 use Rattle.interleavings.specs.Connections.{Connection}
 use Rattle.interleavings.specs.ServingMoves.{ServingChain, ServingMove, Reads, Begins, Asks, Peeks, Refuses, Answers}
-use Rattle.interleavings.specs.ServingMoves.{Writes, Ends, Runs, opening_serving, served_by, served}
+use Rattle.interleavings.specs.ServingMoves.{Writes, Ends, Runs, opening_serving, served_by}
 use Rattle.interleavings.specs.Served.{CallName, ServedCall, StandsThere, IsEarlier, call_made, reply_got}
-use Rattle.interleavings.specs.Served.{IsMadeUpdate, is_call_published}
 use Rattle.interleavings.specs.LeasedMoves.{with_leases, counted, home_of}
 use Rattle.interleavings.specs.LeasedOrders.{mover, IsBegunBy}
 

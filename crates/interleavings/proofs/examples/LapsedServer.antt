@@ -1,6 +1,6 @@
 -- The tail was called gone, and goes on: it publishes the step of a set, puts a message, and a client looks there.
-use Rattle.std.proofs.Common.{◌≡◌, ◌≢◌, ℕ, Bool, true, false, List, [], ◌∷◌, ◌++◌, length, take, map, None, Some, refl, arith}
-use Rattle.std.proofs.Common.{lit<, lit≤, ap, sym, ◌∙◌, inl, inr}
+use Rattle.std.proofs.Common.{◌≡◌, ℕ, Bool, true, false, List, [], ◌∷◌, length, take, None, Some, refl, arith}
+use Rattle.std.proofs.Common.{lit<, lit≤, ap, ◌∙◌, inl, inr}
 use Rattle.std.specs.Prelude.{◌+◌, nat_lt, slice_get}
 use Rattle.std.specs.FinMap.{empty, get-empty}
 use Rattle.std.proofs.lemmas.Bool.{cases_eq}
@@ -23,10 +23,10 @@ use Rattle.world.specs.WorkedSchedules.{name}
 use Rattle.world.specs.Orders.{OrderedCall}
 use Rattle.interleavings.specs.Asked.{IsAsked}
 use Rattle.interleavings.specs.Chains.{Seat, Chain, with_at, with_seat, opening_seat, calls_from, queue}
-use Rattle.interleavings.specs.Moves.{Looks, done}
+use Rattle.interleavings.specs.Moves.{Looks}
 use Rattle.interleavings.specs.Orders.{reply_to, is_published}
-use Rattle.interleavings.specs.WorkedRuns.{key, set, other_set, before_outlived_look}
-use Rattle.interleavings.specs.LeasedMoves.{LeasedChain, LeasedMove, Does, opening_leased, leased_by, leased_from, leased}
+use Rattle.interleavings.specs.WorkedRuns.{key, other_set, before_outlived_look}
+use Rattle.interleavings.specs.LeasedMoves.{LeasedChain, Does, opening_leased, leased}
 use Rattle.interleavings.specs.LeasedMoves.{AreAskedLeased, put_for, reply_written}
 use Rattle.interleavings.specs.LeasedOrders.{IsLeased, IsOrderOfWritten}
 use Rattle.interleavings.specs.WorkedLeases.{tail_is_called, tail_goes_on, lapsed_homes, before_lapsed_look}

@@ -1,8 +1,8 @@
 -- The tail was called gone, and answers a question of the head after a set was answered that it doesn't have: the head,
 -- which isn't told, answers a get by that.
 use Rattle.std.proofs.Common.{◌≡◌, ◌≢◌, ℕ, Bool, true, false, List, [], ◌∷◌, ◌++◌, length, take, map, Option, None, Some, refl, arith}
-use Rattle.std.proofs.Common.{ap, sym, ◌∙◌, inl, inr}
-use Rattle.std.specs.Prelude.{slice_get, slice_index_or}
+use Rattle.std.proofs.Common.{ap, ◌∙◌, inl, inr}
+use Rattle.std.specs.Prelude.{slice_get}
 use Rattle.std.proofs.lemmas.Bool.{cases_eq}
 use Rattle.table.specs.declared.operations.Reply.{Reply}
 use Rattle.table.specs.declared.operations.Reply.TheVariants.{Stored, Value}
@@ -19,11 +19,11 @@ use Rattle.node.specs.Steps.{trimmed}
 use Rattle.node.specs.Views.{has, union, single, is_below, adds, next_from, predecessor}
 use Rattle.world.specs.WorkedSchedules.{name}
 use Rattle.world.proofs.order.Since.{is_some}
-use Rattle.interleavings.specs.Chains.{Seat, Chain, with_at, opening_seat}
+use Rattle.interleavings.specs.Chains.{Seat, with_at}
 use Rattle.interleavings.specs.Moves.{read_of}
 use Rattle.interleavings.specs.Orders.{begun_call, reply_to}
-use Rattle.interleavings.specs.WorkedRuns.{key, set}
-use Rattle.interleavings.specs.LeasedMoves.{LeasedChain, LeasedMove, Does, Writes, opening_leased, leased_from, leased}
+use Rattle.interleavings.specs.WorkedRuns.{key}
+use Rattle.interleavings.specs.LeasedMoves.{LeasedChain, Does, Writes, leased}
 use Rattle.interleavings.specs.LeasedMoves.{reply_written}
 use Rattle.interleavings.specs.LeasedOrders.{AreRepliesLeased, AreMessagesLeased, PrecedesWritten, HasNoOrderOfWritten}
 use Rattle.interleavings.specs.WorkedLeases.{late_homes, set_is_passed, middle_is_told, head_asks, answer_is_late}
@@ -31,7 +31,6 @@ use Rattle.interleavings.specs.WorkedLeases.{before_late_get, late_message_moves
 use Rattle.interleavings.proofs.lists.ChangedFunctions.{at_same, at_other}
 use Rattle.interleavings.proofs.relation.Transfer.{take_front}
 use Rattle.interleavings.proofs.leased.Uncalled.{uncalled_messages, uncalled_replies, none_written}
-use Rattle.interleavings.proofs.examples.LeasedParts.{leased_from-append}
 use Rattle.interleavings.proofs.examples.MissedSet.{served_seats, served_first, served_other}
 use Rattle.interleavings.proofs.examples.MissedWritten.{none_explains}
 

@@ -1,6 +1,6 @@
 -- The tail was called gone, a set is answered, and then a client is written what it found at the tail.
-use Rattle.std.proofs.Common.{◌≡◌, ◌≢◌, ℕ, suc, Bool, true, false, cond, List, [], ◌∷◌, ◌++◌, length, take, None, Some, refl}
-use Rattle.std.proofs.Common.{arith, ap, sym, ◌∙◌, subst, inl, inr}
+use Rattle.std.proofs.Common.{◌≡◌, ◌≢◌, ℕ, suc, Bool, true, false, cond, [], ◌∷◌, length, take, None, Some, refl}
+use Rattle.std.proofs.Common.{arith, ap, ◌∙◌, inl, inr}
 use Rattle.std.specs.Prelude.{nat_lt, slice_get}
 use Rattle.std.proofs.lemmas.Bool.{cases_eq}
 use Rattle.table.specs.declared.operations.Reply.TheVariants.{Stored, Value}
@@ -13,10 +13,10 @@ use Rattle.node.specs.Views.{has, union, single, is_below, adds, next_from, pred
 use Rattle.world.specs.WorkedSchedules.{name}
 use Rattle.world.proofs.order.Since.{is_some}
 use Rattle.interleavings.specs.Chains.{Seat, Chain, with_at, with_seat}
-use Rattle.interleavings.specs.Moves.{Looks, done, read_of}
+use Rattle.interleavings.specs.Moves.{Looks}
 use Rattle.interleavings.specs.Orders.{begun_call, reply_to}
-use Rattle.interleavings.specs.WorkedRuns.{key, set, told_homes, before_outlived_look}
-use Rattle.interleavings.specs.LeasedMoves.{LeasedChain, LeasedMove, Does, Writes, opening_leased, leased_by, leased_from}
+use Rattle.interleavings.specs.WorkedRuns.{key, told_homes, before_outlived_look}
+use Rattle.interleavings.specs.LeasedMoves.{LeasedChain, Does, Writes, opening_leased, leased_by, leased_from}
 use Rattle.interleavings.specs.LeasedMoves.{leased, reply_written}
 use Rattle.interleavings.specs.LeasedOrders.{AreRepliesLeased, AreMessagesLeased, PrecedesWritten, HasNoOrderOfWritten}
 use Rattle.interleavings.specs.WorkedLeases.{tail_is_called, late_write_moves}

@@ -15,7 +15,6 @@ use Rattle.world.specs.WorkedSchedules.{name, said}
 use Rattle.world.proofs.examples.WorkedDirtyOrder.{unseen_set_is_illegal}
 use Rattle.interleavings.specs.Chains.{Chain}
 use Rattle.interleavings.specs.Moves.{read_of}
-use Rattle.interleavings.specs.Orders.{begun_call}
 use Rattle.interleavings.specs.WorkedRuns.{key, set}
 use Rattle.interleavings.specs.LeasedMoves.{LeasedMove, leased, reply_written}
 use Rattle.interleavings.specs.LeasedOrders.{PrecedesWritten, IsOrderOfWritten, HasNoOrderOfWritten}

@@ -1,9 +1,9 @@
 -- What a move leaves beside each other: one of a server that was called gone is a move of the first chain alone, any
 -- other is one of both.
-use Rattle.std.proofs.Common.{◌≡◌, ◌≢◌, ℕ, suc, ◌+◌, ◌≤◌, Bool, true, false, cond, List, [], ◌∷◌, ◌++◌, length, refl, arith}
+use Rattle.std.proofs.Common.{◌≡◌, ℕ, ◌+◌, ◌≤◌, Bool, true, false, cond, List, [], ◌∷◌, ◌++◌, length, refl, arith}
 use Rattle.std.proofs.Common.{ap, sym, ◌∙◌, subst, inl, inr}
 use Rattle.std.specs.Prelude.{nat_lt, not, ◌&&◌, ◌||◌}
-use Rattle.std.proofs.lemmas.Bool.{cases_eq, both_ways, and_parts, not-true}
+use Rattle.std.proofs.lemmas.Bool.{cases_eq}
 use Rattle.table.specs.Items.{Item}
 use Rattle.table.specs.declared.operations.Call.{Call}
 use Rattle.table.specs.declared.operations.Reply.{Reply}
@@ -14,12 +14,11 @@ use Rattle.node.specs.declared.messages.Input.TheVariants.{Call as Called, From,
 use Rattle.node.specs.declared.messages.Peer.{Peer}
 use Rattle.node.specs.Faces.{face_of, look_at}
 use Rattle.interleavings.specs.Chains.{RunningServer, Seat, Chain, with_at, with_running, with_channel, with_seat}
-use Rattle.interleavings.specs.Chains.{Sender, messages_to, without_message, replies_to, without_reply}
+use Rattle.interleavings.specs.Chains.{messages_to, without_message, replies_to, without_reply}
 use Rattle.interleavings.specs.Moves.{Move, Sends, Takes, Publishes, Puts, Arrives, Replies, Receives, Looks, Stops}
 use Rattle.interleavings.specs.Moves.{Notices, is_free, brought, sent, received, looked, taking, publishing, put}
 use Rattle.interleavings.specs.Moves.{reply_put, has_stopped, done}
 use Rattle.interleavings.specs.Moves as moves
-use Rattle.interleavings.specs.Quiet.{goes_on}
 use Rattle.interleavings.specs.Ports.{input_at}
 use Rattle.interleavings.specs.LeasedMoves.{with_leases, first_alone, counted}
 use Rattle.interleavings.specs.LeasedOrders.{mover}

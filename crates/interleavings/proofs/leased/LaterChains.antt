@@ -1,7 +1,7 @@
 -- What only grows along a run of a leased chain: who was called gone, what has arrived, was put and was written, and
 -- what seats hold.
 use Rattle.std.proofs.Common.{◌≡◌, ℕ, zero, suc, ◌+◌, ◌≤◌, Bool, true, false, cond, List, [], ◌∷◌, ◌++◌, length, take}
-use Rattle.std.proofs.Common.{refl, arith, ap, sym, ◌∙◌, subst, length-append, inl, inr}
+use Rattle.std.proofs.Common.{refl, arith, ap, ◌∙◌, length-append, inl, inr}
 use Rattle.std.specs.Prelude.{nat_lt, not, ◌&&◌}
 use Rattle.std.proofs.lemmas.Bool.{cases_eq}
 use Rattle.table.specs.Items.{Item}
@@ -10,7 +10,7 @@ use Rattle.node.specs.declared.looks.Look.{Look}
 use Rattle.node.specs.declared.looks.Look.TheVariants.{Clean, Dirty}
 use Rattle.node.specs.declared.messages.Peer.{Peer}
 use Rattle.node.specs.Faces.{face_of, look_at}
-use Rattle.interleavings.specs.Chains.{Seat, Chain, with_at, with_channel, messages_to, replies_to}
+use Rattle.interleavings.specs.Chains.{Seat, Chain, with_at, messages_to, replies_to}
 use Rattle.interleavings.specs.Moves.{Move, Sends, Takes, Publishes, Puts, Arrives, Replies, Receives, Looks, Stops}
 use Rattle.interleavings.specs.Moves.{Notices, is_free, looked, put, received, reply_put}
 use Rattle.interleavings.specs.Moves as moves

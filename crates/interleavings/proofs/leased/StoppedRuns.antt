@@ -1,12 +1,12 @@
 -- Beside a leased run, in which all that servers put out was made up before they were called gone: the run in which each
 -- stops when it is called gone.
-use Rattle.std.proofs.Common.{◌≡◌, ℕ, zero, suc, ◌+◌, ◌<◌, ◌≤◌, Bool, true, false, cond, List, [], ◌∷◌, ◌++◌, length, take}
-use Rattle.std.proofs.Common.{refl, arith, ap, sym, ◌∙◌, subst, length-append, append-nil, append_assoc, inl, inr}
-use Rattle.std.specs.Prelude.{nat_lt, not, ◌&&◌, slice_index_or}
+use Rattle.std.proofs.Common.{◌≡◌, ℕ, zero, suc, ◌≤◌, Bool, true, false, cond, List, [], ◌∷◌, ◌++◌, length, take}
+use Rattle.std.proofs.Common.{refl, arith, ap, sym, ◌∙◌, subst, length-append, append_assoc, inl, inr}
+use Rattle.std.specs.Prelude.{nat_lt}
 use Rattle.std.proofs.lemmas.Bool.{both_ways, and_parts, cases_eq, ltb-true}
 use Rattle.interleavings.specs.Chains.{Seat, Chain, with_at, opening_chain}
-use Rattle.interleavings.specs.Moves.{Move, Stops, moved_from, moved, done}
-use Rattle.interleavings.specs.Asked.{IsAskedBy, AreAsked}
+use Rattle.interleavings.specs.Moves.{Move, Stops, moved_from, moved}
+use Rattle.interleavings.specs.Asked.{AreAsked}
 use Rattle.interleavings.specs.Quiet.{goes_on}
 use Rattle.interleavings.specs.LeasedMoves.{LeasedChain, LeasedMove, Does, Calls, Writes, may_be_called, leased_by}
 use Rattle.interleavings.specs.LeasedMoves.{opening_leased, leased_from, leased, IsAskedByLeased, AreAskedLeased}

@@ -1,8 +1,8 @@
 -- Beside a leased run of a chain that serves: the run in which each server stops when it is called gone. Its order
 -- explains each reply that was made up before.
-use Rattle.std.proofs.Common.{◌≡◌, ℕ, zero, suc, ◌+◌, ◌≤◌, ◌<◌, Bool, true, false, cond, List, [], ◌∷◌, ◌++◌, length, take}
+use Rattle.std.proofs.Common.{◌≡◌, ℕ, zero, suc, ◌≤◌, Bool, true, false, cond, List, [], ◌∷◌, ◌++◌, length, take}
 use Rattle.std.proofs.Common.{Option, None, Some, refl, arith, ap, sym, ◌∙◌, subst, append-nil, append_assoc, inl, inr}
-use Rattle.std.specs.Prelude.{nat_lt, not, ◌&&◌, slice_get, IsSome}
+use Rattle.std.specs.Prelude.{nat_lt, ◌&&◌, slice_get}
 use Rattle.std.proofs.lemmas.Bool.{cases_eq, both_ways, and_parts}
 use Rattle.std.proofs.lemmas.List.{take_all}
 use Rattle.table.specs.declared.operations.Call.{Call}
@@ -15,20 +15,20 @@ use Rattle.proto.proofs.WriteLaws.{fewer_outcomes_begin}
 use Rattle.node.proofs.Lists.{get_front}
 use Rattle.world.proofs.lists.Standing.{some_of}
 use Rattle.world.proofs.order.Since.{is_some}
-use Rattle.interleavings.specs.Chains.{Chain, with_at, opening_chain}
-use Rattle.interleavings.specs.Moves.{Move, Stops, Sends, Receives, Looks, is_free, read_of, done}
+use Rattle.interleavings.specs.Chains.{with_at, opening_chain}
+use Rattle.interleavings.specs.Moves.{Move, Stops, Sends, Receives, Looks, is_free, done}
 use Rattle.interleavings.specs.Quiet.{goes_on}
 use Rattle.interleavings.specs.Connections.{Connection, made, answered, refused, waits, may_have}
 use Rattle.interleavings.specs.ServingMoves.{ServingChain, ServingMove, Reads, Begins, Asks, Peeks, Refuses, Answers}
 use Rattle.interleavings.specs.ServingMoves.{Writes, Ends, Runs, opening_serving, served_at, with_served, with_move}
 use Rattle.interleavings.specs.ServingMoves.{refusing, asking, peeked, peeking, answering, key_due, look_reply}
 use Rattle.interleavings.specs.ServingMoves.{is_of_seat, served_by, served_from, served}
-use Rattle.interleavings.specs.Served.{CallName, ServedCall, StandsThere, IsEarlier, call_made, reply_got, replies_of}
+use Rattle.interleavings.specs.Served.{CallName, ServedCall, call_made, reply_got, replies_of}
 use Rattle.interleavings.specs.Served.{IsOneOrder, ComesBefore, IsServedInTurn}
 use Rattle.interleavings.specs.OtherMoves.{Doing}
-use Rattle.interleavings.specs.LeasedMoves.{LeasedChain, LeasedMove, Does, Calls, with_leases, counted, home_of}
+use Rattle.interleavings.specs.LeasedMoves.{LeasedChain, Does, Calls, with_leases, counted, home_of}
 use Rattle.interleavings.specs.LeasedOrders.{IsBegunBy}
-use Rattle.interleavings.specs.LeasedServing.{LeasedServing, LeasedServingMove, Serves, CallsGone, counted_serving}
+use Rattle.interleavings.specs.LeasedServing.{LeasedServing, LeasedServingMove, Serves, CallsGone}
 use Rattle.interleavings.specs.LeasedServing.{may_be_gone, leased_serving_by, opening_leased_serving}
 use Rattle.interleavings.specs.LeasedServing.{leased_serving_from, leased_serving, put_by, made_up, IsLeasedServing}
 use Rattle.interleavings.specs.LeasedServing.{server_of, kept_serving, kept_serving_from, serving_as_stopped}
@@ -40,7 +40,6 @@ use Rattle.interleavings.proofs.served.Along.{served_from-append, opening_order,
 use Rattle.interleavings.proofs.served.Connected.{IsConnected, run_with}
 use Rattle.interleavings.proofs.served.OneOrder.{one_order}
 use Rattle.interleavings.proofs.leased.SeatGrowth.{seat_same, begun_same}
-use Rattle.interleavings.proofs.leased.Beside.{Beside}
 use Rattle.interleavings.proofs.leased.BesideMoves.{calls_gone}
 use Rattle.interleavings.proofs.leased.LaterChains.{Later, later_same, later_then, later_by}
 use Rattle.interleavings.proofs.leased.StoppedRuns.{opening_owns}

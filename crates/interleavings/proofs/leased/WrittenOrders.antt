@@ -1,8 +1,8 @@
 -- An order of the calls of the run in which servers stop when they are called gone explains all that clients were
 -- written in the run in which they go on.
-use Rattle.std.proofs.Common.{◌≡◌, ℕ, zero, suc, ◌+◌, ◌<◌, ◌≤◌, Bool, true, false, List, [], ◌∷◌, ◌++◌, length, take}
-use Rattle.std.proofs.Common.{Option, None, Some, refl, arith, ap, sym, ◌∙◌, subst, length-append}
-use Rattle.std.specs.Prelude.{nat_lt, slice_get, slice_index_or, IsSome}
+use Rattle.std.proofs.Common.{◌≡◌, ℕ, zero, suc, ◌+◌, ◌<◌, ◌≤◌, Bool, true, false, List, [], ◌∷◌, length, take}
+use Rattle.std.proofs.Common.{Option, None, Some, refl, arith, ap, sym, ◌∙◌, subst}
+use Rattle.std.specs.Prelude.{nat_lt, slice_get, slice_index_or}
 use Rattle.std.proofs.lemmas.Bool.{ltb-true}
 use Rattle.std.proofs.lemmas.List.{take_all}
 use Rattle.std.proofs.lemmas.Option.{same_Some}
@@ -11,23 +11,21 @@ use Rattle.table.specs.declared.operations.Reply.{Reply}
 use Rattle.node.proofs.BegunLists.{found_below}
 use Rattle.node.proofs.Lists.{get_front}
 use Rattle.world.specs.Calls.{CallId}
-use Rattle.world.specs.Orders.{OrderedCall, StandsAt}
+use Rattle.world.specs.Orders.{OrderedCall}
 use Rattle.world.proofs.lists.Standing.{some_of}
 use Rattle.world.proofs.order.Since.{is_some}
 use Rattle.interleavings.specs.Chains.{RunningServer, Seat, Chain, opening_chain, calls_from, queue}
 use Rattle.interleavings.specs.Moves.{Move, moved_from, moved}
-use Rattle.interleavings.specs.Asked.{AreAsked}
-use Rattle.interleavings.specs.Orders.{begun_call, reply_to, waiting_calls, is_published, IsUpdate, Precedes}
+use Rattle.interleavings.specs.Orders.{begun_call, reply_to, waiting_calls, is_published, Precedes}
 use Rattle.interleavings.specs.Orders.{PublishedBefore, IsLinearization, IsInTurn}
 use Rattle.interleavings.specs.LeasedMoves.{LeasedMove, opening_leased, leased, AreAskedLeased, home_of, reply_written}
-use Rattle.interleavings.specs.LeasedOrders.{IsLeased, kept_from, as_stopped, IsBegunBy, PrecedesWritten}
+use Rattle.interleavings.specs.LeasedOrders.{IsLeased, as_stopped, IsBegunBy, PrecedesWritten}
 use Rattle.interleavings.specs.LeasedOrders.{IsOrderOfWritten, PublishedBeforeGone, IsInTurnWritten}
 use Rattle.interleavings.proofs.lists.TwoParts.{moved_from-append}
 use Rattle.interleavings.proofs.relation.Following.{linearizable}
 use Rattle.interleavings.proofs.relation.Transfer.{take_front}
 use Rattle.interleavings.proofs.runs.Simulating.{simulates}
 use Rattle.interleavings.proofs.leased.SeatGrowth.{AllGrow, moved_grows}
-use Rattle.interleavings.proofs.leased.Beside.{Beside}
 use Rattle.interleavings.proofs.leased.StoppedRuns.{beside_at, written_at, asked_still, kept_begins}
 
 -- ---- lists
