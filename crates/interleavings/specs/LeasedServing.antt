@@ -11,6 +11,7 @@ use Rattle.interleavings.specs.Quiet.{goes_on}
 use Rattle.interleavings.specs.Connections.{Connection}
 use Rattle.interleavings.specs.ServingMoves.{ServingChain, ServingMove, Reads, Begins, Asks, Peeks, Refuses, Answers}
 use Rattle.interleavings.specs.ServingMoves.{Writes, Ends, Runs, opening_serving, served_by}
+use Rattle.interleavings.specs.Served.{IsMadeUpdate, is_call_published}
 use Rattle.interleavings.specs.Served.{CallName, ServedCall, StandsThere, IsEarlier, call_made, reply_got}
 use Rattle.interleavings.specs.LeasedMoves.{with_leases, counted, home_of}
 use Rattle.interleavings.specs.LeasedOrders.{mover, IsBegunBy}
@@ -134,6 +135,21 @@ pub record ComesBeforeGone (count : ℕ) (homes : List ℕ) (moves : List Leased
   pub answered : IsSome (reply_got (leased_serving count homes (take k moves)).serving x)
   pub not_made : call_made (leased_serving count homes (take k moves)).serving y ≡ None
 
+-- x is published first: x and y are updates at one server of the chain, and after some first k moves, among which it
+-- isn't called gone, the step of x is published, and that of y isn't (a seat's number is its port)
+pub record PublishedFirstUngone (count : ℕ) (homes : List ℕ) (moves : List LeasedServingMove) (x y : CallName) :
+    Type 0 where
+  pub k : ℕ
+  pub ungone : IsUngone count homes moves k x
+  pub published : is_call_published (λ c. c) (leased_serving count homes (take k moves)).serving x ≡ true
+  pub not_published : is_call_published (λ c. c) (leased_serving count homes (take k moves)).serving y ≡ false
+  pub server : ℕ
+  pub of_chain : server < count
+  pub here : slice_get homes x.seat ≡ Some server
+  pub there : slice_get homes y.seat ≡ Some server
+  pub update : IsMadeUpdate (leased_serving count homes moves).serving x
+  pub later_update : IsMadeUpdate (leased_serving count homes moves).serving y
+
 -- The order h explains each reply that a connection got before its server was called gone:
 pub record IsOrderBeforeGone (count : ℕ) (homes : List ℕ) (moves : List LeasedServingMove) (h : List ServedCall) :
     Type 0 where
@@ -156,7 +172,12 @@ pub record IsOrderBeforeGone (count : ℕ) (homes : List ℕ) (moves : List Leas
       → ComesBeforeGone count homes moves x y
       → StandsThere h j y
       → (i : ℕ) × (i < j) × StandsThere h i x
-  -- and so it is if x is an earlier call of the connection of y.
+  -- so it is if x is published first, before y,
+  pub in_turn : (x y : CallName) (j : ℕ)
+      → PublishedFirstUngone count homes moves x y
+      → StandsThere h j y
+      → (i : ℕ) × (i < j) × StandsThere h i x
+  -- and if x is an earlier call of the connection of y.
   pub own : (x y : CallName) (j : ℕ) → IsEarlier x y → StandsThere h j y → (i : ℕ) × (i < j) × StandsThere h i x
 
 -- What was written to a connection begins the texts of its turns, each call's with an outcome that it had after some

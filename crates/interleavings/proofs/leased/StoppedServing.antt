@@ -2,7 +2,7 @@
 -- explains each reply that was made up before.
 use Rattle.std.proofs.Common.{◌≡◌, ℕ, zero, suc, ◌≤◌, Bool, true, false, cond, List, [], ◌∷◌, ◌++◌, length, take}
 use Rattle.std.proofs.Common.{Option, None, Some, refl, arith, ap, sym, ◌∙◌, subst, append-nil, append_assoc, inl, inr}
-use Rattle.std.specs.Prelude.{nat_lt, ◌&&◌, slice_get}
+use Rattle.std.specs.Prelude.{◌+◌, is_some, nat_lt, ◌&&◌, slice_get}
 use Rattle.std.proofs.lemmas.Bool.{cases_eq, both_ways, and_parts}
 use Rattle.std.proofs.lemmas.List.{take_all}
 use Rattle.table.specs.declared.operations.Call.{Call}
@@ -14,7 +14,7 @@ use Rattle.proto.proofs.RunTexts.{output_is_texts}
 use Rattle.proto.proofs.WriteLaws.{fewer_outcomes_begin}
 use Rattle.node.proofs.Lists.{get_front}
 use Rattle.world.proofs.lists.Standing.{some_of}
-use Rattle.world.proofs.order.Since.{is_some}
+use Rattle.world.proofs.order.Since.{is_some as has_some}
 use Rattle.interleavings.specs.Chains.{with_at, opening_chain}
 use Rattle.interleavings.specs.Moves.{Move, Stops, Sends, Receives, Looks, is_free, done}
 use Rattle.interleavings.specs.Quiet.{goes_on}
@@ -39,6 +39,13 @@ use Rattle.interleavings.proofs.rows.Going.{GoesOn, goes}
 use Rattle.interleavings.proofs.served.Along.{served_from-append, opening_order, order_along}
 use Rattle.interleavings.proofs.served.Connected.{IsConnected, run_with}
 use Rattle.interleavings.proofs.served.OneOrder.{one_order}
+use Rattle.std.proofs.lemmas.Option.{same_Some, get_or_from_slice_get}
+use Rattle.interleavings.specs.Chains.{RunningServer, Seat, calls_from, queue}
+use Rattle.interleavings.specs.OtherMoves.{is_published_from}
+use Rattle.interleavings.specs.Served.{calls_before, id_at_seat, is_call_published, PublishedFirst}
+use Rattle.interleavings.specs.LeasedServing.{PublishedFirstUngone}
+use Rattle.interleavings.proofs.served.Along.{grows_from}
+use Rattle.interleavings.proofs.served.Steps.{Grows}
 use Rattle.interleavings.proofs.leased.SeatGrowth.{seat_same, begun_same}
 use Rattle.interleavings.proofs.leased.BesideMoves.{calls_gone}
 use Rattle.interleavings.proofs.leased.LaterChains.{Later, later_same, later_then, later_by}
@@ -432,7 +439,7 @@ module _ (count : ℕ) (homes : List ℕ) (moves : List LeasedServingMove) (leas
       let far = come_far p.k in
       record {
         k = length (stops_at p.k);
-        answered = is_some _ a.0 (ap (λ ms. reply_got (served done count homes ms) x) far
+        answered = has_some _ a.0 (ap (λ ms. reply_got (served done count homes ms) x) far
             ∙ got_there p.k x a.0 p.ungone a.1);
         not_made = ap (λ ms. call_made (served done count homes ms) y) far
             ∙ none_of (call_made (stopped_at p.k) y) (call_made (run_at p.k) y) (made_later p.k y) p.not_made;
@@ -448,6 +455,73 @@ module _ (count : ℕ) (homes : List ℕ) (moves : List LeasedServingMove) (leas
       subst (λ ms. call_made (served done count homes (serving_as_stopped count homes ms)) x ≡ Some call
       → call_made (leased_serving count homes ms).serving x ≡ Some call) whole (made_later (length moves) x call)
 
+  -- while a server isn't called gone, the same of its calls are published
+  calls_before_same : (k c n : ℕ)
+      → (leased_serving count homes (take k moves)).called (home c) ≡ false
+      → calls_before (stopped_at k) c n ≡ calls_before (run_at k) c n
+  calls_before_same k c zero going = refl
+  calls_before_same k c (suc n) going =
+      ap (λ a. a + length ((stopped_at k).connections c n).calls) (calls_before_same k c n going)
+      ∙ ap (λ (u : Connection). calls_before (run_at k) c n + length u.calls) (there_at k c n going)
+
+  published_there : (k : ℕ) (x : CallName)
+      → IsUngone count homes moves k x
+      → is_call_published (λ c. c) (stopped_at k) x ≡ is_call_published (λ c. c) (run_at k) x
+  published_there k x going =
+      let b = (beside_at k).chains in
+      let l = (stopped_at k).chain in
+      let o = calls_before (run_at k) x.seat x.number + x.ordinal in
+      ap (λ (u : Connection). is_some (slice_get u.calls x.ordinal)
+      && is_published_from (λ c. c) l (id_at_seat (stopped_at k) x)) (there_at k x.seat x.number going)
+      ∙ ap (λ n. is_some (call_made (run_at k) x)
+      && is_published_from (λ c. c) l (record { connection = x.seat; ordinal = n + x.ordinal }))
+      (calls_before_same k x.seat x.number going)
+      ∙ ap (λ (u : Seat). is_some (call_made (run_at k) x)
+      && nat_lt (o + length (calls_from x.seat (queue (l.servers u.home)))) (length u.calls)) (b.seats.same x.seat going)
+      ∙ ap (λ (v : RunningServer). is_some (call_made (run_at k) x)
+      && nat_lt (o + length (calls_from x.seat (queue v))) (length ((run_at k).chain.seats x.seat).calls))
+      (b.servers.same ((run_at k).chain.seats x.seat).home
+      (ap (leased_serving count homes (take k moves)).called (b.seats.sits x.seat) ∙ going))
+
+  -- a call that is made stays so
+  made_on : (k : ℕ) (x : CallName) (call : Call)
+      → call_made (stopped_at k) x ≡ Some call
+      → call_made (served done count homes stops) x ≡ Some call
+  made_on k x call e =
+      let g = grows_from (length (stops_at k)) stops (opening_serving count homes) (opening_order count homes) in
+      let was : Grows (stopped_at k) (served done count homes stops) =
+      subst (λ ms. Grows (served done count homes ms) (served done count homes stops)) (come_far k) g in
+      was.calls x.seat x.number x.ordinal call e
+
+  published_first : (x y : CallName) (call : Call)
+      → PublishedFirstUngone count homes moves x y
+      → call_made (served done count homes stops) y ≡ Some call
+      → PublishedFirst done (λ c. c) count homes stops x y
+  published_first x y call p made_y =
+      let far = come_far p.k in
+      let same_home : home y.seat ≡ home x.seat =
+      get_or_from_slice_get homes y.seat p.server count p.there
+      ∙ sym (get_or_from_slice_get homes x.seat p.server count p.here) in
+      let going = ap (leased_serving count homes (take p.k moves)).called same_home ∙ p.ungone in
+      let there = published_there p.k x p.ungone ∙ p.published in
+      let f = some_of (call_made (stopped_at p.k) x) (and_parts (is_some (call_made (stopped_at p.k) x)) _ there).0 in
+      let on = made_on p.k x f.0 f.1 in
+      let one : f.0 ≡ p.update.0 = same_Some f.0 p.update.0 (sym (made_last x f.0 on) ∙ p.update.1) in
+      let two : call ≡ p.later_update.0 =
+      same_Some call p.later_update.0 (sym (made_last y call made_y) ∙ p.later_update.1) in
+      record {
+        k = length (stops_at p.k);
+        published = ap (λ ms. is_call_published (λ c. c) (served done count homes ms) x) far ∙ there;
+        not_published = ap (λ ms. is_call_published (λ c. c) (served done count homes ms) y) far
+            ∙ published_there p.k y going ∙ p.not_published;
+        server = p.server;
+        of_chain = p.of_chain;
+        here = p.here;
+        there = p.there;
+        update = (f.0, on, rw one p.update.2);
+        later_update = (call, made_y, rw two p.later_update.2);
+      }
+
   before_gone : (h : List ServedCall)
       → IsOneOrder done count homes stops h
       → IsServedInTurn done (λ c. c) count homes stops h
@@ -458,6 +532,10 @@ module _ (count : ℕ) (homes : List ℕ) (moves : List LeasedServingMove) (leas
     once = one.once;
     answered = λ x reply k going e. one.answered x reply (replies_stay k x reply (got_there k x reply going e));
     in_time = λ x y j p s. one.in_time x y j (precedes x y p) s;
+    in_turn = λ x y j p s.
+        let made_y = subst (λ z. call_made (served done count homes stops) z ≡ Some s.entry.call) s.named
+        (one.made j s.entry s.here) in
+        turn.in_turn x y j (published_first x y s.entry.call p made_y) s;
     own = turn.own;
   }
 
