@@ -1,5 +1,5 @@
--- What is asked of servers with leases; the run in which each that was called gone has stopped; and the one order of the
--- calls whose replies clients were written.
+-- What is asked of servers with leases; the run in which each that was called gone has stopped; and the one order of
+-- the calls whose replies clients were written.
 use Rattle.std.specs.Prelude.{◌≡◌, ℕ, ◌<◌, ◌≤◌, true, false, List, [], ◌∷◌, ◌++◌, length, take, map, None, Some}
 use Rattle.std.specs.Prelude.{slice_get, IsSome, if◌then◌else◌}
 use Rattle.table.specs.Histories.{IsLegal}

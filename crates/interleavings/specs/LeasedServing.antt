@@ -1,6 +1,7 @@
 -- Chains whose servers have leases and serve connections: one that was called gone may go on with all of it. What is
 -- asked of them, and the one order of the calls whose replies connections are written.
-use Rattle.std.specs.Prelude.{◌≡◌, ℕ, ◌+◌, ◌<◌, ◌≤◌, Bool, true, false, not, ◌&&◌, List, [], ◌∷◌, ◌++◌, length, take, map}
+use Rattle.std.specs.Prelude.{◌≡◌, ℕ, ◌+◌, ◌<◌, ◌≤◌, Bool, true, false, not, ◌&&◌, List, [], ◌∷◌, ◌++◌, length, take}
+use Rattle.std.specs.Prelude.{map}
 use Rattle.std.specs.Prelude.{None, Some, slice_get, IsSome, if◌then◌else◌}
 use Rattle.table.specs.Histories.{IsLegal}
 use Rattle.table.specs.declared.operations.Reply.{Reply}
@@ -127,7 +128,8 @@ abbrev pub IsUngone : ℕ → List ℕ → List LeasedServingMove → ℕ → Ca
 IsUngone count homes moves k x =
     (leased_serving count homes (take k moves)).called (home_of count homes x.seat) ≡ false
 
--- x precedes y: after some first k moves, among which the server of x isn't called gone, x is answered, and y isn't made
+-- x precedes y: after some first k moves, among which the server of x isn't called gone, x is answered, and y isn't
+-- made
 pub record ComesBeforeGone (count : ℕ) (homes : List ℕ) (moves : List LeasedServingMove) (x y : CallName) :
     Type 0 where
   pub k : ℕ

@@ -13,8 +13,8 @@ use Rattle.interleavings.specs.WorkedRuns.{key, set, other_set, before_outlived_
 unfoldable pub tail_is_called : List LeasedMove
 tail_is_called = Calls 1 ∷ map Does before_outlived_look ++ Writes 0 ∷ []
 
--- ---- The tail goes on: it takes a set of a client of its own, publishes its step, puts its message to the head onto the
--- ---- channel, and a client looks there. Nothing of that is written, and the message doesn't arrive.
+-- ---- The tail goes on: it takes a set of a client of its own, publishes its step, puts its message to the head onto
+-- ---- the channel, and a client looks there. Nothing of that is written, and the message doesn't arrive.
 
 -- the homes of the seats
 abbrev pub lapsed_homes : List ℕ

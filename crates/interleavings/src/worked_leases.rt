@@ -1,5 +1,5 @@
-//! Worked runs of servers with leases: one whose server goes on after it was called gone, and two that have no order, as
-//! something is put out that was made up too late.
+//! Worked runs of servers with leases: one whose server goes on after it was called gone, and two that have no order,
+//! as something is put out that was made up too late.
 ghost use Rattle.std.specs.Prelude.{◌≡◌, ◌≢◌, ℕ, true, List, None, Some};
 ghost use Rattle.table.specs.declared.operations.Reply.TheVariants.{Stored, Value};
 ghost use Rattle.world.specs.Orders.{OrderedCall};

@@ -58,60 +58,61 @@ unfolding with_at has union single is_below adds next_from predecessor most appe
 clean_there = refl
 
 shows_nothing : look_at (face_of own_set) key ≡ Clean None
-shows_nothing = look-face_of own_set key lawful_own.sound ∙ clean_there ∙ ap (λ found. Clean found) (get-empty key_cmp key)
+shows_nothing =
+    look-face_of own_set key lawful_own.sound ∙ clean_there ∙ ap (λ found. Clean found) (get-empty key_cmp key)
 
 before_first : (before.chain.seats 0).got ≡ Stored ∷ []
-unfolding tail_is_called tail_goes_on before_outlived_look with_at has union single is_below adds next_from predecessor most appended entered
-    widened taken_all sent_again forwarded replies_to trimmed left_open replies risen passed_on take_update
-    promoted_to_head promoted_to_tail caught_up acked_to_predecessor asks_renewed
+unfolding tail_is_called tail_goes_on before_outlived_look with_at has union single is_below adds next_from predecessor
+    most appended entered widened taken_all sent_again forwarded replies_to trimmed left_open replies risen passed_on
+    take_update promoted_to_head promoted_to_tail caught_up acked_to_predecessor asks_renewed
 before_first = refl
 
 before_seat : before.chain.seats 1 ≡ opening_seat 1
-unfolding tail_is_called tail_goes_on before_outlived_look with_at has union single is_below adds next_from predecessor most appended entered
-    widened taken_all sent_again forwarded replies_to trimmed left_open replies risen passed_on take_update
-    promoted_to_head promoted_to_tail caught_up acked_to_predecessor asks_renewed
+unfolding tail_is_called tail_goes_on before_outlived_look with_at has union single is_below adds next_from predecessor
+    most appended entered widened taken_all sent_again forwarded replies_to trimmed left_open replies risen passed_on
+    take_update promoted_to_head promoted_to_tail caught_up acked_to_predecessor asks_renewed
 before_seat = refl
 
 before_goes_on : (before.chain.servers 1).stopped ≡ false
-unfolding tail_is_called tail_goes_on before_outlived_look with_at has union single is_below adds next_from predecessor most appended entered
-    widened taken_all sent_again forwarded replies_to trimmed left_open replies risen passed_on take_update
-    promoted_to_head promoted_to_tail caught_up acked_to_predecessor asks_renewed
+unfolding tail_is_called tail_goes_on before_outlived_look with_at has union single is_below adds next_from predecessor
+    most appended entered widened taken_all sent_again forwarded replies_to trimmed left_open replies risen passed_on
+    take_update promoted_to_head promoted_to_tail caught_up acked_to_predecessor asks_renewed
 before_goes_on = refl
 
 before_node : (before.chain.servers 1).node ≡ own_set
-unfolding tail_is_called tail_goes_on before_outlived_look with_at has union single is_below adds next_from predecessor most appended entered
-    widened taken_all sent_again forwarded replies_to trimmed left_open replies risen passed_on take_update
-    promoted_to_head promoted_to_tail caught_up acked_to_predecessor asks_renewed
+unfolding tail_is_called tail_goes_on before_outlived_look with_at has union single is_below adds next_from predecessor
+    most appended entered widened taken_all sent_again forwarded replies_to trimmed left_open replies risen passed_on
+    take_update promoted_to_head promoted_to_tail caught_up acked_to_predecessor asks_renewed
 before_node = refl
 
 before_called : before.called ≡ with_at (λ i. false) 1 true
-unfolding tail_is_called tail_goes_on before_outlived_look with_at has union single is_below adds next_from predecessor most appended entered
-    widened taken_all sent_again forwarded replies_to trimmed left_open replies risen passed_on take_update
-    promoted_to_head promoted_to_tail caught_up acked_to_predecessor asks_renewed
+unfolding tail_is_called tail_goes_on before_outlived_look with_at has union single is_below adds next_from predecessor
+    most appended entered widened taken_all sent_again forwarded replies_to trimmed left_open replies risen passed_on
+    take_update promoted_to_head promoted_to_tail caught_up acked_to_predecessor asks_renewed
 before_called = refl
 
 before_arrived : before.arrived ≡ (λ i j. 0)
-unfolding tail_is_called tail_goes_on before_outlived_look with_at has union single is_below adds next_from predecessor most appended entered
-    widened taken_all sent_again forwarded replies_to trimmed left_open replies risen passed_on take_update
-    promoted_to_head promoted_to_tail caught_up acked_to_predecessor asks_renewed
+unfolding tail_is_called tail_goes_on before_outlived_look with_at has union single is_below adds next_from predecessor
+    most appended entered widened taken_all sent_again forwarded replies_to trimmed left_open replies risen passed_on
+    take_update promoted_to_head promoted_to_tail caught_up acked_to_predecessor asks_renewed
 before_arrived = refl
 
 before_written : before.written ≡ with_at (λ c. 0) 0 1
-unfolding tail_is_called tail_goes_on before_outlived_look with_at has union single is_below adds next_from predecessor most appended entered
-    widened taken_all sent_again forwarded replies_to trimmed left_open replies risen passed_on take_update
-    promoted_to_head promoted_to_tail caught_up acked_to_predecessor asks_renewed
+unfolding tail_is_called tail_goes_on before_outlived_look with_at has union single is_below adds next_from predecessor
+    most appended entered widened taken_all sent_again forwarded replies_to trimmed left_open replies risen passed_on
+    take_update promoted_to_head promoted_to_tail caught_up acked_to_predecessor asks_renewed
 before_written = refl
 
 before_published : is_published before.chain (name 2 0) ≡ true
-unfolding tail_is_called tail_goes_on before_outlived_look with_at has union single is_below adds next_from predecessor most appended entered
-    widened taken_all sent_again forwarded replies_to trimmed left_open replies risen passed_on take_update
-    promoted_to_head promoted_to_tail caught_up acked_to_predecessor asks_renewed
+unfolding tail_is_called tail_goes_on before_outlived_look with_at has union single is_below adds next_from predecessor
+    most appended entered widened taken_all sent_again forwarded replies_to trimmed left_open replies risen passed_on
+    take_update promoted_to_head promoted_to_tail caught_up acked_to_predecessor asks_renewed
 before_published = refl
 
 before_put : put_for before 1 0 ≡ 1
-unfolding tail_is_called tail_goes_on before_outlived_look with_at has union single is_below adds next_from predecessor most appended entered
-    widened taken_all sent_again forwarded replies_to trimmed left_open replies risen passed_on take_update
-    promoted_to_head promoted_to_tail caught_up acked_to_predecessor asks_renewed
+unfolding tail_is_called tail_goes_on before_outlived_look with_at has union single is_below adds next_from predecessor
+    most appended entered widened taken_all sent_again forwarded replies_to trimmed left_open replies risen passed_on
+    take_update promoted_to_head promoted_to_tail caught_up acked_to_predecessor asks_renewed
 before_put = refl
 
 -- ---- the look

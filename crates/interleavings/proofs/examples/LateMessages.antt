@@ -1,6 +1,7 @@
 -- The tail was called gone, and answers a question of the head after a set was answered that it doesn't have: the head,
 -- which isn't told, answers a get by that.
-use Rattle.std.proofs.Common.{◌≡◌, ◌≢◌, ℕ, Bool, true, false, List, [], ◌∷◌, ◌++◌, length, take, map, Option, None, Some, refl, arith}
+use Rattle.std.proofs.Common.{◌≡◌, ◌≢◌, ℕ, Bool, true, false, List, [], ◌∷◌, ◌++◌, length, take, map, Option, None}
+use Rattle.std.proofs.Common.{Some, refl, arith}
 use Rattle.std.proofs.Common.{ap, ◌∙◌, inl, inr}
 use Rattle.std.specs.Prelude.{slice_get}
 use Rattle.std.proofs.lemmas.Bool.{cases_eq}
@@ -40,9 +41,9 @@ abbrev before : LeasedChain
 before = leased 3 late_homes before_late_get
 
 before_seats : before.chain.seats ≡ served_seats 3 late_homes 1
-unfolding before_late_get set_is_passed middle_is_told with_at has union single is_below adds next_from predecessor most appended entered
-    widened taken_all sent_again forwarded replies_to trimmed left_open replies risen passed_on take_update
-    promoted_to_head promoted_to_tail caught_up acked_to_predecessor asks_renewed
+unfolding before_late_get set_is_passed middle_is_told with_at has union single is_below adds next_from predecessor most
+    appended entered widened taken_all sent_again forwarded replies_to trimmed left_open replies risen passed_on
+    take_update promoted_to_head promoted_to_tail caught_up acked_to_predecessor asks_renewed
 before_seats = refl
 
 -- ---- in the end
@@ -65,21 +66,24 @@ abbrev last : LeasedChain
 last = leased 3 late_homes late_message_moves
 
 seats_are : last.chain.seats ≡ last_seats
-unfolding before_late_get set_is_passed middle_is_told head_asks answer_is_late with_at has union single is_below adds next_from predecessor most appended entered
-    widened taken_all sent_again forwarded replies_to trimmed left_open replies risen passed_on take_update
-    promoted_to_head promoted_to_tail caught_up acked_to_predecessor asks_renewed asked dirty_read answered
+unfolding before_late_get set_is_passed middle_is_told head_asks answer_is_late with_at has union single is_below adds
+    next_from predecessor most appended entered widened taken_all sent_again forwarded replies_to trimmed left_open
+    replies risen passed_on take_update promoted_to_head promoted_to_tail caught_up acked_to_predecessor asks_renewed
+    asked dirty_read answered
 seats_are = refl
 
 called_are : last.called ≡ with_at (λ i. false) 2 true
-unfolding before_late_get set_is_passed middle_is_told head_asks answer_is_late with_at has union single is_below adds next_from predecessor most appended entered
-    widened taken_all sent_again forwarded replies_to trimmed left_open replies risen passed_on take_update
-    promoted_to_head promoted_to_tail caught_up acked_to_predecessor asks_renewed asked dirty_read answered
+unfolding before_late_get set_is_passed middle_is_told head_asks answer_is_late with_at has union single is_below adds
+    next_from predecessor most appended entered widened taken_all sent_again forwarded replies_to trimmed left_open
+    replies risen passed_on take_update promoted_to_head promoted_to_tail caught_up acked_to_predecessor asks_renewed
+    asked dirty_read answered
 called_are = refl
 
 written_are : last.written ≡ with_at (with_at (λ c. 0) 0 1) 1 1
-unfolding before_late_get set_is_passed middle_is_told head_asks answer_is_late with_at has union single is_below adds next_from predecessor most appended entered
-    widened taken_all sent_again forwarded replies_to trimmed left_open replies risen passed_on take_update
-    promoted_to_head promoted_to_tail caught_up acked_to_predecessor asks_renewed asked dirty_read answered
+unfolding before_late_get set_is_passed middle_is_told head_asks answer_is_late with_at has union single is_below adds
+    next_from predecessor most appended entered widened taken_all sent_again forwarded replies_to trimmed left_open
+    replies risen passed_on take_update promoted_to_head promoted_to_tail caught_up acked_to_predecessor asks_renewed
+    asked dirty_read answered
 written_are = refl
 
 first_seat : last.chain.seats 0 ≡ served_seats 3 late_homes 1 0

@@ -34,38 +34,38 @@ abbrev before : LeasedChain
 before = leased 2 told_homes tail_is_called
 
 before_seats : before.chain.seats ≡ served_seats 2 told_homes 0
-unfolding tail_is_called before_outlived_look with_at has union single is_below adds next_from predecessor most appended entered
-    widened taken_all sent_again forwarded replies_to trimmed left_open replies risen passed_on take_update
+unfolding tail_is_called before_outlived_look with_at has union single is_below adds next_from predecessor most appended
+    entered widened taken_all sent_again forwarded replies_to trimmed left_open replies risen passed_on take_update
     promoted_to_head promoted_to_tail caught_up acked_to_predecessor asks_renewed
 before_seats = refl
 
 before_goes_on : (before.chain.servers 1).stopped ≡ false
-unfolding tail_is_called before_outlived_look with_at has union single is_below adds next_from predecessor most appended entered
-    widened taken_all sent_again forwarded replies_to trimmed left_open replies risen passed_on take_update
+unfolding tail_is_called before_outlived_look with_at has union single is_below adds next_from predecessor most appended
+    entered widened taken_all sent_again forwarded replies_to trimmed left_open replies risen passed_on take_update
     promoted_to_head promoted_to_tail caught_up acked_to_predecessor asks_renewed
 before_goes_on = refl
 
 before_node : (before.chain.servers 1).node ≡ opening 1 2
-unfolding tail_is_called before_outlived_look with_at has union single is_below adds next_from predecessor most appended entered
-    widened taken_all sent_again forwarded replies_to trimmed left_open replies risen passed_on take_update
+unfolding tail_is_called before_outlived_look with_at has union single is_below adds next_from predecessor most appended
+    entered widened taken_all sent_again forwarded replies_to trimmed left_open replies risen passed_on take_update
     promoted_to_head promoted_to_tail caught_up acked_to_predecessor asks_renewed
 before_node = refl
 
 before_called : before.called ≡ with_at (λ i. false) 1 true
-unfolding tail_is_called before_outlived_look with_at has union single is_below adds next_from predecessor most appended entered
-    widened taken_all sent_again forwarded replies_to trimmed left_open replies risen passed_on take_update
+unfolding tail_is_called before_outlived_look with_at has union single is_below adds next_from predecessor most appended
+    entered widened taken_all sent_again forwarded replies_to trimmed left_open replies risen passed_on take_update
     promoted_to_head promoted_to_tail caught_up acked_to_predecessor asks_renewed
 before_called = refl
 
 before_arrived : before.arrived ≡ (λ i j. 0)
-unfolding tail_is_called before_outlived_look with_at has union single is_below adds next_from predecessor most appended entered
-    widened taken_all sent_again forwarded replies_to trimmed left_open replies risen passed_on take_update
+unfolding tail_is_called before_outlived_look with_at has union single is_below adds next_from predecessor most appended
+    entered widened taken_all sent_again forwarded replies_to trimmed left_open replies risen passed_on take_update
     promoted_to_head promoted_to_tail caught_up acked_to_predecessor asks_renewed
 before_arrived = refl
 
 before_written : before.written ≡ with_at (λ c. 0) 0 1
-unfolding tail_is_called before_outlived_look with_at has union single is_below adds next_from predecessor most appended entered
-    widened taken_all sent_again forwarded replies_to trimmed left_open replies risen passed_on take_update
+unfolding tail_is_called before_outlived_look with_at has union single is_below adds next_from predecessor most appended
+    entered widened taken_all sent_again forwarded replies_to trimmed left_open replies risen passed_on take_update
     promoted_to_head promoted_to_tail caught_up acked_to_predecessor asks_renewed
 before_written = refl
 

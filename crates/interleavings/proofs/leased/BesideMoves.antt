@@ -24,7 +24,8 @@ use Rattle.interleavings.specs.LeasedMoves.{with_leases, first_alone, counted}
 use Rattle.interleavings.specs.LeasedOrders.{mover}
 use Rattle.interleavings.proofs.lists.ChangedFunctions.{at_same, at_other}
 use Rattle.interleavings.proofs.leased.SeatGrowth.{begun_same, begun_more}
-use Rattle.interleavings.proofs.leased.HomePorts.{at_home, home_keeps, one_more_at, without_message_to, without_reply_to}
+use Rattle.interleavings.proofs.leased.HomePorts.{at_home, home_keeps, one_more_at, without_message_to}
+use Rattle.interleavings.proofs.leased.HomePorts.{without_reply_to}
 use Rattle.interleavings.proofs.leased.HomePorts.{Owns, taking_owns, publishing_owns, none_for_others}
 use Rattle.interleavings.proofs.leased.Beside.{ServersBeside, SeatsBeside, ChannelsBeside, Longer, Beside}
 use Rattle.interleavings.proofs.leased.Beside.{both_servers, one_server, server_called, both_seats, one_seat}

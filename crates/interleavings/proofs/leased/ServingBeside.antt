@@ -307,7 +307,8 @@ module _ (home : ℕ → ℕ) (most_arrived : ℕ → ℕ → ℕ) (most_got : �
       both_answer (reply ∷ more) =
           let k = served_at s c in
           subst (λ (u : Connection).
-          R arrived (cond (waits k && may_have k.session.asked reply) (with_move W s (Receives c) c (answered reply k)) s)
+          R arrived
+          (cond (waits k && may_have k.session.asked reply) (with_move W s (Receives c) c (answered reply k)) s)
           (cond (waits u && may_have u.session.asked reply) (with_move done d (Receives c) c (answered reply u)) d))
           (sym served_there)
           (both_by_test (waits k && may_have k.session.asked reply) (with_move W s (Receives c) c (answered reply k))

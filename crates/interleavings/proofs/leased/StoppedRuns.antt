@@ -1,5 +1,5 @@
--- Beside a leased run, in which all that servers put out was made up before they were called gone: the run in which each
--- stops when it is called gone.
+-- Beside a leased run, in which all that servers put out was made up before they were called gone: the run in which
+-- each stops when it is called gone.
 use Rattle.std.proofs.Common.{◌≡◌, ℕ, zero, suc, ◌≤◌, Bool, true, false, cond, List, [], ◌∷◌, ◌++◌, length, take}
 use Rattle.std.proofs.Common.{refl, arith, ap, sym, ◌∙◌, subst, length-append, append_assoc, inl, inr}
 use Rattle.std.specs.Prelude.{nat_lt}
@@ -310,7 +310,8 @@ module _ (count : ℕ) (homes : List ℕ) (moves : List LeasedMove) (leases : Is
       record {
         servers = b.servers.same;
         stopped = b.servers.stopped;
-        seats = λ c going. b.seats.same c (ap (leased count homes (take k moves)).called (sym (b.seats.sits c)) ∙ going);
+        seats = λ c going.
+            b.seats.same c (ap (leased count homes (take k moves)).called (sym (b.seats.sits c)) ∙ going);
         calls = λ c. (b.seats.grown c).calls;
         got = λ c. (b.seats.grown c).got;
         written = written_at k;

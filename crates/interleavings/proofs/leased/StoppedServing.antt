@@ -105,23 +105,24 @@ module _ (s : LeasedServing) where
 
   later_runs : (m : Move)
       → Later first (record {
-          chain = (served_by W s.serving (Runs m)).chain;
-          called = s.called;
-          arrived = counted s.arrived s.serving.chain m;
-          written = λ c. 0;
-        })
+        chain = (served_by W s.serving (Runs m)).chain;
+        called = s.called;
+        arrived = counted s.arrived s.serving.chain m;
+        written = λ c. 0;
+      })
   later_runs m = by (is_of_seat m) refl
     where
       by : (b : Bool)
           → is_of_seat m ≡ b
           → Later first (record {
-              chain = (cond b s.serving (record s.serving { chain = W s.serving.chain m })).chain;
-              called = s.called;
-              arrived = counted s.arrived s.serving.chain m;
-              written = λ c. 0;
-            })
+            chain = (cond b s.serving (record s.serving { chain = W s.serving.chain m })).chain;
+            called = s.called;
+            arrived = counted s.arrived s.serving.chain m;
+            written = λ c. 0;
+          })
       by true is =
-          subst (λ a. Later first (record { chain = s.serving.chain; called = s.called; arrived = a; written = λ c. 0 }))
+          subst (λ a.
+          Later first (record { chain = s.serving.chain; called = s.called; arrived = a; written = λ c. 0 }))
           (sym (seat_counts s.arrived s.serving.chain m is)) (later_same first)
       by false is = later_by first (Does m)
 
@@ -171,7 +172,10 @@ module _ (home : ℕ → ℕ) (most_arrived : ℕ → ℕ → ℕ) where
         → (k : ℕ) × ((after s k ms).called i ≡ false) × (most_arrived i j ≤ put_by (after s k ms) i j)
     arrived : (i j : ℕ) → (leased_serving_from s ms).arrived i j ≤ most_arrived i j
 
-  not_before : (s t : LeasedServing) (i : ℕ) → Later (as_leased s) (as_leased t) → t.called i ≡ false → s.called i ≡ false
+  not_before : (s t : LeasedServing) (i : ℕ)
+      → Later (as_leased s) (as_leased t)
+      → t.called i ≡ false
+      → s.called i ≡ false
   not_before s t i later going = by (s.called i) refl
     where
       by : (b : Bool) → s.called i ≡ b → s.called i ≡ false
@@ -291,7 +295,8 @@ module _ (home : ℕ → ℕ) (most_arrived : ℕ → ℕ → ℕ) where
   beside_along (suc k) [] s d h t = h
   beside_along (suc k) (m ∷ ms) s d h t =
       let n = leased_serving_by s m in
-      subst (S (after n k ms)) (sym (served_from-append d (kept_serving home s m) (kept_serving_from home n (take k ms))))
+      subst (S (after n k ms))
+      (sym (served_from-append d (kept_serving home s m) (kept_serving_from home n (take k ms))))
       (beside_along k ms n (served_from done d (kept_serving home s m)) (step s d m ms h t) (coming_next s m ms t))
 
   -- what is left of some first moves begins what is left of all
@@ -330,7 +335,8 @@ replies_joined (Refused ∷ os) ps = replies_joined os ps
 
 -- ---- the order
 
-module _ (count : ℕ) (homes : List ℕ) (moves : List LeasedServingMove) (leases : IsLeasedServing count homes moves) where
+module _ (count : ℕ) (homes : List ℕ) (moves : List LeasedServingMove)
+    (leases : IsLeasedServing count homes moves) where
   abbrev home : ℕ → ℕ
   home = home_of count homes
 
@@ -477,7 +483,8 @@ module _ (count : ℕ) (homes : List ℕ) (moves : List LeasedServingMove) (leas
       && is_published_from (λ c. c) l (record { connection = x.seat; ordinal = n + x.ordinal }))
       (calls_before_same k x.seat x.number going)
       ∙ ap (λ (u : Seat). is_some (call_made (run_at k) x)
-      && nat_lt (o + length (calls_from x.seat (queue (l.servers u.home)))) (length u.calls)) (b.seats.same x.seat going)
+      && nat_lt (o + length (calls_from x.seat (queue (l.servers u.home)))) (length u.calls))
+      (b.seats.same x.seat going)
       ∙ ap (λ (v : RunningServer). is_some (call_made (run_at k) x)
       && nat_lt (o + length (calls_from x.seat (queue v))) (length ((run_at k).chain.seats x.seat).calls))
       (b.servers.same ((run_at k).chain.seats x.seat).home

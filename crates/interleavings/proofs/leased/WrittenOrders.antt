@@ -31,7 +31,9 @@ use Rattle.interleavings.proofs.leased.StoppedRuns.{beside_at, written_at, asked
 -- ---- lists
 
 -- what stands in the front of a list stands in it
-taken_get : {X : Type 0} (n : ℕ) (xs : List X) (p : ℕ) (x : X) → slice_get (take n xs) p ≡ Some x → slice_get xs p ≡ Some x
+taken_get : {X : Type 0} (n : ℕ) (xs : List X) (p : ℕ) (x : X)
+    → slice_get (take n xs) p ≡ Some x
+    → slice_get xs p ≡ Some x
 taken_get zero xs p x e = absurd cc
 taken_get (suc n) [] p x e = e
 taken_get (suc n) (y ∷ xs) zero x e = e
@@ -111,7 +113,8 @@ module _ (count : ℕ) (homes : List ℕ) (moves : List LeasedMove) (leases : Is
 
   written_last : (c : ℕ) → (leased count homes moves).written c ≤ length ((moved count homes stops).seats c).got
   written_last c =
-      subst (λ ms. (leased count homes ms).written c ≤ length ((moved count homes (as_stopped count homes ms)).seats c).got)
+      subst (λ ms.
+      (leased count homes ms).written c ≤ length ((moved count homes (as_stopped count homes ms)).seats c).got)
       whole (written_at count homes moves leases all c)
 
   -- a reply that a client was written is one of that run
@@ -129,7 +132,8 @@ module _ (count : ℕ) (homes : List ℕ) (moves : List LeasedMove) (leases : Is
   -- ---- after some first k moves
 
   -- that run has then come as far
-  come_far : (k : ℕ) → take (length (as_stopped count homes (take k moves))) stops ≡ as_stopped count homes (take k moves)
+  come_far : (k : ℕ)
+      → take (length (as_stopped count homes (take k moves))) stops ≡ as_stopped count homes (take k moves)
   come_far k =
       let b = kept_begins (home_of count homes) k moves (opening_leased count homes) in
       ap (take (length (as_stopped count homes (take k moves)))) b.all
