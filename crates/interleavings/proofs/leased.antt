@@ -7,5 +7,6 @@ pub mod LaterChains
 pub mod StoppedRuns
 pub mod WrittenOrders
 pub mod Uncalled
+pub mod UngoneCalls
 pub mod ServingBeside
 pub mod StoppedServing

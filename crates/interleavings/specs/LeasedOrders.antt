@@ -10,6 +10,7 @@ use Rattle.interleavings.specs.Chains.{Chain}
 use Rattle.interleavings.specs.Moves.{Move, Sends, Takes, Publishes, Puts, Arrives, Replies, Receives, Looks, Stops}
 use Rattle.interleavings.specs.Moves.{Notices}
 use Rattle.interleavings.specs.Orders.{begun_call, reply_to, is_published, IsUpdate}
+use Rattle.interleavings.specs.Quiet.{goes_on}
 use Rattle.interleavings.specs.LeasedMoves.{LeasedChain, LeasedMove, Does, Calls, Writes, opening_leased}
 use Rattle.interleavings.specs.LeasedMoves.{may_be_called, leased_by, leased, home_of, put_for, reply_written}
 
@@ -139,3 +140,14 @@ pub record IsInTurnWritten (count : ℕ) (homes : List ℕ) (moves : List Leased
       → PublishedBeforeGone count homes moves x y
       → StandsAt h j y
       → (i : ℕ) × (i < j) × StandsAt h i x
+
+-- ---- no call is forgotten
+
+-- each call of a seat whose server goes on and wasn't called gone has its reply
+abbrev pub NoneForgottenUngone : LeasedChain → Type 0
+NoneForgottenUngone s =
+    (x : CallId)
+    → s.called (s.chain.seats x.connection).home ≡ false
+    → goes_on s.chain (s.chain.seats x.connection).home ≡ true
+    → IsSome (begun_call s.chain x)
+    → IsSome (reply_to s.chain x)

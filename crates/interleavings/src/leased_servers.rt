@@ -1,10 +1,12 @@
 //! Laws of servers with leases: one that was called gone may go on, and is as good as stopped, if what it puts out was
 //! made up before.
-ghost use Rattle.std.specs.Prelude.{◌≡◌, ℕ, ◌≤◌, List, take};
+ghost use Rattle.std.specs.Prelude.{◌≡◌, ℕ, ◌^◌, ◌≤◌, ◌<◌, List, length, take};
 ghost use Rattle.interleavings.specs.Asked.{AreAsked};
 ghost use Rattle.interleavings.specs.Moves.{moved};
 ghost use Rattle.interleavings.specs.LeasedMoves.{LeasedMove, leased, AreAskedLeased};
 ghost use Rattle.interleavings.specs.LeasedOrders.{IsLeased, as_stopped, IsSeenAs, IsOrderOfWritten, IsInTurnWritten};
+ghost use Rattle.interleavings.specs.LeasedOrders.{NoneForgottenUngone};
+ghost use Rattle.interleavings.specs.Quiet.{IsQuiet};
 ghost use Rattle.interleavings.specs.LeasedServing.{LeasedServingMove, IsLeasedServing, IsOrderBeforeGone};
 ghost use Rattle.interleavings.specs.LeasedServing.{IsWrittenBeforeGone};
 ghost use Rattle.interleavings.specs.Served.{ServedCall};
@@ -33,6 +35,18 @@ pub fn leased_runs_have_one_order()
         → AreAskedLeased moves
         → IsLeased count homes moves
         → (h : List OrderedCall) × IsOrderOfWritten count homes moves h × IsInTurnWritten count homes moves h }
+{}
+
+/// No call at a server that wasn't called gone is forgotten: if nothing is left to do in the run in which each server
+/// stops when it is called gone, each call of a seat whose server goes on has its reply, but at those servers.
+pub fn leased_runs_forget_no_call()
+    ensures { (count : ℕ) (homes : List ℕ) (moves : List LeasedMove)
+        → count ≤ 16
+        → length moves < 2 ^ 62
+        → AreAskedLeased moves
+        → IsLeased count homes moves
+        → IsQuiet (moved count homes (as_stopped count homes moves))
+        → NoneForgottenUngone (leased count homes moves) }
 {}
 
 /// From bytes of clients to bytes of clients, if servers have leases.

@@ -15,7 +15,8 @@ pub use laws::{
     without_refusals_all_is_replied,
 };
 pub use leased_servers::{
-    clients_of_leased_servers_see_one_table, leased_runs_have_one_order, leased_servers_are_stopped,
+    clients_of_leased_servers_see_one_table, leased_runs_forget_no_call,
+    leased_runs_have_one_order, leased_servers_are_stopped,
 };
 pub use starts::{
     clients_see_one_table_from_a_start, every_life_has_one_order, held_tables_are_reached,

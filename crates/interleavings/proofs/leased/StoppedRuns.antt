@@ -236,11 +236,11 @@ written_along (m ∷ ms) s h c = written_along ms (leased_by s m) (one m) c
 
 module _ (count : ℕ) (homes : List ℕ) (moves : List LeasedMove) (leases : IsLeased count homes moves) where
   -- how many messages may arrive, and how many replies are to be written
-  abbrev most_arrived : ℕ → ℕ → ℕ
+  abbrev pub most_arrived : ℕ → ℕ → ℕ
   most_arrived i j =
       put_for (leased count homes (take (leases.messages i j).0 moves)) i j
 
-  abbrev most_got : ℕ → ℕ
+  abbrev pub most_got : ℕ → ℕ
   most_got c =
       length ((leased count homes (take (leases.replies c).0 moves)).chain.seats c).got
 
