@@ -24,3 +24,4 @@ pub mod MissedWritten
 pub mod LateWrites
 pub mod LateMessages
 pub mod LapsedServer
+pub mod LapsedServing

@@ -1,9 +1,11 @@
 -- Worked runs of servers with leases: their moves.
-use Rattle.std.specs.Prelude.{ℕ, List, [], ◌∷◌, ◌++◌, map}
+use Rattle.std.specs.Prelude.{ℕ, List, [], ◌∷◌, ◌++◌, map, codes}
 use Rattle.interleavings.specs.Chains.{OfSeat, OfServer, OfNotices}
 use Rattle.interleavings.specs.Moves.{Move, Sends, Takes, Publishes, Puts, Arrives, Replies, Receives, Looks, Notices}
 use Rattle.interleavings.specs.Moves.{read_of}
 use Rattle.interleavings.specs.LeasedMoves.{LeasedMove, Does, Calls, Writes}
+use Rattle.interleavings.specs.ServingMoves.{ServingMove, Reads, Begins, Asks, Answers, Writes as WritesOut, Runs}
+use Rattle.interleavings.specs.LeasedServing.{LeasedServingMove, Serves, CallsGone}
 use Rattle.interleavings.specs.WorkedRuns.{key, set, other_set, before_outlived_look}
 
 -- ---- Two servers. The lease of the tail is over, and it is called gone. The head is told, so it is the tail too, and
@@ -75,3 +77,28 @@ before_late_get = map Does set_is_passed ++ Calls 2 ∷ map Does middle_is_told 
 -- all moves
 abbrev pub late_message_moves : List LeasedMove
 late_message_moves = before_late_get ++ (map Does head_asks ++ map Does answer_is_late ++ Writes 1 ∷ [])
+
+-- ---- The two servers of the first run serve connections. The tail is called gone, the head is told, and is the tail
+-- ---- too; a client sets there and is written the answer. A client of the old tail asks it for the same key, and its
+-- ---- session makes up an answer that isn't written.
+
+-- the homes of the seats
+abbrev pub serving_homes : List ℕ
+serving_homes = 0 ∷ 1 ∷ []
+
+-- the head is told, and answers the set
+unfoldable pub head_serves : List ServingMove
+head_serves =
+    Runs (Notices 0 1) ∷ Runs (Takes 0 OfNotices) ∷ Runs (Publishes 0) ∷ Reads 0 (codes "set a 0 0 1\r\np\r\n")
+    ∷ Begins 0 ∷ Asks 0 ∷ Runs (Takes 0 (OfSeat 0)) ∷ Runs (Publishes 0) ∷ Runs (Replies 0 0) ∷ Answers 0
+    ∷ WritesOut 0 40 ∷ []
+
+-- the old tail answers the get, but for the writing
+unfoldable pub old_tail_serves : List ServingMove
+old_tail_serves =
+    Reads 1 (codes "get a\r\n") ∷ Begins 1 ∷ Asks 1 ∷ Runs (Takes 1 (OfSeat 1)) ∷ Runs (Publishes 1)
+    ∷ Runs (Replies 1 1) ∷ Answers 1 ∷ []
+
+-- all moves
+unfoldable pub serving_moves : List LeasedServingMove
+serving_moves = CallsGone 1 ∷ map Serves (head_serves ++ old_tail_serves)

@@ -1,6 +1,6 @@
 //! Worked runs of servers with leases: one whose server goes on after it was called gone, and two that have no order,
 //! as something is put out that was made up too late.
-ghost use Rattle.std.specs.Prelude.{◌≡◌, ◌≢◌, ℕ, true, List, None, Some};
+ghost use Rattle.std.specs.Prelude.{◌≡◌, ◌≢◌, ℕ, true, List, [], None, Some, codes};
 ghost use Rattle.table.specs.declared.operations.Reply.TheVariants.{Stored, Value};
 ghost use Rattle.world.specs.Orders.{OrderedCall};
 ghost use Rattle.world.specs.WorkedSchedules.{name};
@@ -8,9 +8,11 @@ ghost use Rattle.interleavings.specs.Orders.{reply_to, is_published};
 ghost use Rattle.interleavings.specs.LeasedMoves.{leased, AreAskedLeased, put_for, reply_written};
 ghost use Rattle.interleavings.specs.LeasedOrders.{AreRepliesLeased, AreMessagesLeased, IsLeased, IsOrderOfWritten};
 ghost use Rattle.interleavings.specs.LeasedOrders.{HasNoOrderOfWritten};
+ghost use Rattle.interleavings.specs.Served.{ServedCall};
+ghost use Rattle.interleavings.specs.LeasedServing.{leased_serving, made_up, IsLeasedServing, IsOrderBeforeGone};
 ghost use Rattle.interleavings.specs.WorkedRuns.{told_homes};
 ghost use Rattle.interleavings.specs.WorkedLeases.{lapsed_homes, lapsed_moves, late_write_moves, late_homes};
-ghost use Rattle.interleavings.specs.WorkedLeases.{late_message_moves};
+ghost use Rattle.interleavings.specs.WorkedLeases.{late_message_moves, serving_homes, serving_moves};
 
 /// The tail was called gone and goes on: it publishes the step of a set, puts a message, and a client looks at its face
 /// and finds nothing, though a set was answered before. Nothing of that comes out, so there is an order.
@@ -39,4 +41,17 @@ pub fn late_message_has_no_order()
     ensures no_order { HasNoOrderOfWritten 3 late_homes late_message_moves }
     ensures replies { (c : ℕ) → AreRepliesLeased 3 late_homes late_message_moves c }
     ensures messages { (i j : ℕ) → i ≢ 2 → AreMessagesLeased 3 late_homes late_message_moves i j }
+{}
+
+/// The tail was called gone, and serves a connection: it takes a get and its session makes up that there is nothing,
+/// though a set was answered before. That isn't written, so all that was put out was made up in time, and there is an
+/// order.
+pub fn lapsed_server_serves_on()
+    ensures leased { IsLeasedServing 2 serving_homes serving_moves }
+    ensures stored { ((leased_serving 2 serving_homes serving_moves).serving.connections 0 0).written
+        ≡ codes "STORED\r\n" }
+    ensures made_up { made_up ((leased_serving 2 serving_homes serving_moves).serving.connections 1 0)
+        ≡ codes "END\r\n" }
+    ensures unwritten { ((leased_serving 2 serving_homes serving_moves).serving.connections 1 0).written ≡ [] }
+    ensures order { (h : List ServedCall) × IsOrderBeforeGone 2 serving_homes serving_moves h }
 {}
