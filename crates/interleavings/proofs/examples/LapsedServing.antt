@@ -47,15 +47,15 @@ get_answered found = answered (Value found) get_made
 -- who was called gone
 called_are : last.called ≡ with_at (λ i. false) 1 true
 unfolding serving_moves head_serves old_tail_serves with_at line_limit has union single is_below adds next_from
-    predecessor most appended entered widened taken_all sent_again forwarded replies_to trimmed left_open replies risen passed_on
-    take_update promoted_to_head promoted_to_tail caught_up acked_to_predecessor asks_renewed answered_there
+    predecessor most appended entered widened taken_all sent_again forwarded replies_to trimmed left_open replies risen
+    passed_on take_update promoted_to_head promoted_to_tail caught_up acked_to_predecessor asks_renewed answered_there
 called_are = refl
 
 -- no message arrived
 arrived_are : last.arrived ≡ (λ i j. 0)
 unfolding serving_moves head_serves old_tail_serves with_at line_limit has union single is_below adds next_from
-    predecessor most appended entered widened taken_all sent_again forwarded replies_to trimmed left_open replies risen passed_on
-    take_update promoted_to_head promoted_to_tail caught_up acked_to_predecessor asks_renewed answered_there
+    predecessor most appended entered widened taken_all sent_again forwarded replies_to trimmed left_open replies risen
+    passed_on take_update promoted_to_head promoted_to_tail caught_up acked_to_predecessor asks_renewed answered_there
 arrived_are = refl
 
 -- the connections of the seat there
@@ -65,15 +65,15 @@ tail_connections : last.serving.connections 1
     (with_at (with_at (λ n. opening_connection) 0 (heard (codes "get a\r\n") opening_connection)) 0 get_read) 0
     get_made) 0 (get_answered (item_at empty key))
 unfolding serving_moves head_serves old_tail_serves with_at line_limit has union single is_below adds next_from
-    predecessor most appended entered widened taken_all sent_again forwarded replies_to trimmed left_open replies risen passed_on
-    take_update promoted_to_head promoted_to_tail caught_up acked_to_predecessor asks_renewed answered_there
+    predecessor most appended entered widened taken_all sent_again forwarded replies_to trimmed left_open replies risen
+    passed_on take_update promoted_to_head promoted_to_tail caught_up acked_to_predecessor asks_renewed answered_there
 tail_connections = refl
 
 -- the head's client is written that its set is stored,
 pub head_written : (last.serving.connections 0 0).written ≡ codes "STORED\r\n"
 unfolding serving_moves head_serves old_tail_serves with_at line_limit has union single is_below adds next_from
-    predecessor most appended entered widened taken_all sent_again forwarded replies_to trimmed left_open replies risen passed_on
-    take_update promoted_to_head promoted_to_tail caught_up acked_to_predecessor asks_renewed answered_there
+    predecessor most appended entered widened taken_all sent_again forwarded replies_to trimmed left_open replies risen
+    passed_on take_update promoted_to_head promoted_to_tail caught_up acked_to_predecessor asks_renewed answered_there
 head_written = refl
 
 tail_connection : last.serving.connections 1 0 ≡ get_answered None
