@@ -11,3 +11,4 @@ pub mod ports
 pub mod served
 pub mod rows
 pub mod restored
+pub mod leased

@@ -21,3 +21,9 @@ pub mod Starts
 pub mod HandedOver
 pub mod UsedPorts
 pub mod SentSets
+pub mod LeasedParts
+pub mod MissedWritten
+pub mod LateWrites
+pub mod LateMessages
+pub mod LapsedServer
+pub mod LapsedServing

@@ -23,3 +23,7 @@ pub mod WorkedServing
 pub mod WorkedRows
 pub mod WorkedPorts
 pub mod WorkedStarts
+pub mod LeasedMoves
+pub mod LeasedOrders
+pub mod LeasedServing
+pub mod WorkedLeases

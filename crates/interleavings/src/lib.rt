@@ -2,8 +2,10 @@
 #![tactic(auto)]
 
 mod laws;
+mod leased_servers;
 mod starts;
 pub mod worked;
+pub mod worked_leases;
 pub mod worked_starts;
 
 pub use laws::{
@@ -12,6 +14,10 @@ pub use laws::{
     pipelining_clients_see_one_table, ports_are_names, rows_are_published_in_turn,
     seats_may_have_own_ports, served_calls_may_have_any_free_port, served_seats_may_have_own_ports,
     without_refusals_all_is_replied,
+};
+pub use leased_servers::{
+    clients_of_leased_servers_see_one_table, leased_runs_forget_no_call,
+    leased_runs_have_one_order, leased_servers_are_stopped,
 };
 pub use starts::{
     clients_see_one_table_from_a_start, every_life_has_one_order, held_tables_are_reached,
