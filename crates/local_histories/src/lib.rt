@@ -1,3 +1,7 @@
 //! Local histories are runs: what each server, link, seat and reader did, each by the contracts of the code, is a run of
 //! moves of the running chain.
 #![tactic(auto)]
+
+mod laws;
+
+pub use laws::events_are_moves;

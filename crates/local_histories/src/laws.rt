@@ -1,0 +1,40 @@
+//! Laws: the moves of an event lead from what the events before it have left to what they have left with it.
+ghost use Rattle.std.specs.Prelude.{◌≡◌, ℕ, List};
+ghost use Rattle.node.specs.declared.messages.Input.{Input};
+ghost use Rattle.node.specs.declared.messages.Peer.{Peer};
+ghost use Rattle.faces.specs.Histories.{History};
+ghost use Rattle.rail.specs.declared.inbox_messages.Envelope.{Envelope};
+ghost use Rattle.table.specs.declared.operations.Call.{Call};
+ghost use Rattle.rail.specs.declared.inbox_messages.InboxMessage.{InboxMessage};
+ghost use Rattle.rail.specs.NotedReplies.{NotedReply};
+ghost use Rattle.local_histories.specs.Events.{Event, Sent, Brought, Taken, Shown, Put, Answered, HandedBack};
+ghost use Rattle.local_histories.specs.Events.{Got, Looked, Halted, Broke};
+ghost use Rattle.local_histories.specs.Objects.{OpenedChain};
+ghost use Rattle.local_histories.specs.LocalRules.{IsOpened, IsOf};
+ghost use Rattle.local_histories.specs.Following.{MayFollow, Leads};
+
+/// Each event that may follow others is the moves that `moves_of` says: they lead from each chain of the model that
+/// stands for the events before it to one that stands for those with it.
+pub fn events_are_moves()
+    ensures sent { (s : OpenedChain) (es : List Event) (i k port : ℕ) (call : Call)
+        → IsOpened s → IsOf s (Sent i k port call) → MayFollow s es (Sent i k port call)
+        → Leads s es (Sent i k port call) }
+    ensures brought { (s : OpenedChain) (es : List Event) (i k : ℕ) (message : InboxMessage)
+        → Leads s es (Brought i k message) }
+    ensures taken { (s : OpenedChain) (es : List Event) (i : ℕ) (envelope : Envelope)
+        → IsOf s (Taken i envelope) → MayFollow s es (Taken i envelope) → Leads s es (Taken i envelope) }
+    ensures shown { (s : OpenedChain) (es : List Event) (i : ℕ) (input : Input)
+        → IsOf s (Shown i input) → MayFollow s es (Shown i input) → Leads s es (Shown i input) }
+    ensures put { (s : OpenedChain) (es : List Event) (i j : ℕ) (peer : Peer)
+        → IsOf s (Put i j peer) → MayFollow s es (Put i j peer) → Leads s es (Put i j peer) }
+    ensures answered { (s : OpenedChain) (es : List Event) (i : ℕ) (reply : NotedReply)
+        → IsOpened s → IsOf s (Answered i reply) → MayFollow s es (Answered i reply) → Leads s es (Answered i reply) }
+    ensures handed_back { (s : OpenedChain) (es : List Event) (i port : ℕ) → Leads s es (HandedBack i port) }
+    ensures got { (s : OpenedChain) (es : List Event) (i : ℕ) (reply : NotedReply)
+        → IsOpened s → IsOf s (Got i reply) → MayFollow s es (Got i reply) → Leads s es (Got i reply) }
+    ensures looked { (s : OpenedChain) (es : List Event) (i q : ℕ) (key : List ℕ) (stood : History)
+        → IsOf s (Looked i q key stood) → MayFollow s es (Looked i q key stood)
+        → Leads s es (Looked i q key stood) }
+    ensures halted { (s : OpenedChain) (es : List Event) (i : ℕ) → IsOf s (Halted i) → Leads s es (Halted i) }
+    ensures broke { (s : OpenedChain) (es : List Event) (i to : ℕ) → Leads s es (Broke i to) }
+{}
