@@ -1,5 +1,5 @@
 -- Which event may follow others, in small steps: what the rules of all objects come to at one event.
-use Rattle.std.specs.Prelude.{◌≡◌, ◌<◌, ◌+◌, ℕ, true, false, List, [], ◌∷◌, ◌++◌, take, Some, slice_get}
+use Rattle.std.specs.Prelude.{◌≡◌, ◌<◌, ℕ, suc, true, false, List, [], ◌∷◌, ◌++◌, take, Some, slice_get}
 use mathlib.Core.List.{IsPrefix}
 use Rattle.node.specs.declared.messages.Input.{Input}
 use Rattle.node.specs.declared.messages.Input.TheVariants.{Call as Called, From, Gone}
@@ -82,4 +82,4 @@ pub record AreRun (s : OpenedChain) (es : List Event) : Type 0 where
   pub stands : (n : ℕ) → StandsForChain s (take n es)
       (moved_by (with_own_ports s.homes) s.count s.homes (all_moves s (take n es)))
   pub asked : (n : ℕ) → AreAsked (all_moves s (take n es))
-  pub further : (n : ℕ) → IsPrefix (all_moves s (take n es)) (all_moves s (take (n + 1) es))
+  pub further : (n : ℕ) → IsPrefix (all_moves s (take n es)) (all_moves s (take (suc n) es))
