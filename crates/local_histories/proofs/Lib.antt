@@ -6,3 +6,8 @@ pub mod SeatEvents
 pub mod Looking
 pub mod Outputs
 pub mod Taking
+pub mod Runs
+pub mod OneOrder
+pub mod MissedLook
+pub mod WorkedFollowing
+pub mod WithoutRules

@@ -1,5 +1,5 @@
 -- Events each of which may follow those before it are a run of moves.
-use Rattle.std.proofs.Common.{◌≡◌, ℕ, zero, suc, ◌<◌, Bool, true, false, List, [], ◌∷◌, ◌++◌, take, drop, Option, None, Some}
+use Rattle.std.proofs.Common.{◌≡◌, ℕ, zero, suc, ◌<◌, Bool, true, false, cond, List, [], ◌∷◌, ◌++◌, take, Some}
 use Rattle.std.proofs.Common.{◌⊎◌, inl, inr, refl, ap, sym, ◌∙◌, subst, append_assoc, arith}
 use Rattle.std.specs.Prelude.{slice_get, not, nat_lt}
 use Rattle.std.proofs.lemmas.Bool.{lt-ltb}
@@ -128,7 +128,7 @@ moves_asked s before (Sent i k port call) of = (of.2, tt)
 moves_asked s before (Brought i k message) of = tt
 moves_asked s before (Taken i envelope) of = by (has_halted i before)
   where
-    by : (b : Bool) → AreAsked (if b then [] else moves_of_taking i envelope.inbox_message)
+    by : (b : Bool) → AreAsked (cond b [] (moves_of_taking i envelope.inbox_message))
     by true = tt
     by false = taking_asked i envelope.inbox_message
 moves_asked s before (Shown i input) of = (tt, tt)

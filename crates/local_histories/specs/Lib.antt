@@ -5,3 +5,5 @@ pub mod LocalRules
 pub mod Standing
 pub mod CallOrders
 pub mod Following
+pub mod WrongRules
+pub mod WorkedHistories

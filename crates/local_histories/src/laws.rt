@@ -1,5 +1,5 @@
 //! Laws: the moves of an event lead from what the events before it have left to what they have left with it.
-ghost use Rattle.std.specs.Prelude.{◌≡◌, ℕ, List};
+ghost use Rattle.std.specs.Prelude.{◌≡◌, ◌≤◌, ℕ, List};
 ghost use Rattle.node.specs.declared.messages.Input.{Input};
 ghost use Rattle.node.specs.declared.messages.Peer.{Peer};
 ghost use Rattle.faces.specs.Histories.{History};
@@ -10,8 +10,10 @@ ghost use Rattle.rail.specs.NotedReplies.{NotedReply};
 ghost use Rattle.local_histories.specs.Events.{Event, Sent, Brought, Taken, Shown, Put, Answered, HandedBack};
 ghost use Rattle.local_histories.specs.Events.{Got, Looked, Halted, Broke};
 ghost use Rattle.local_histories.specs.Objects.{OpenedChain};
-ghost use Rattle.local_histories.specs.LocalRules.{IsOpened, IsOf};
-ghost use Rattle.local_histories.specs.Following.{MayFollow, Leads};
+ghost use Rattle.world.specs.Orders.{OrderedCall};
+ghost use Rattle.local_histories.specs.CallOrders.{IsOrderOf, IsInTurn};
+ghost use Rattle.local_histories.specs.Following.{MayFollow, EachMayFollow, Leads, AreRun};
+ghost use Rattle.local_histories.specs.LocalRules.{IsOpened, IsOf, AreOf};
 
 /// Each event that may follow others is the moves that `moves_of` says: they lead from each chain of the model that
 /// stands for the events before it to one that stands for those with it.
@@ -37,4 +39,17 @@ pub fn events_are_moves()
         → Leads s es (Looked i q key stood) }
     ensures halted { (s : OpenedChain) (es : List Event) (i : ℕ) → IsOf s (Halted i) → Leads s es (Halted i) }
     ensures broke { (s : OpenedChain) (es : List Event) (i to : ℕ) → Leads s es (Broke i to) }
+{}
+
+/// Events each of which may follow those before it are a run of moves.
+pub fn following_events_are_runs()
+    // After each beginning, what stands in the model is what the events have left.
+    ensures run { (s : OpenedChain) (es : List Event)
+        → IsOpened s → AreOf s es → EachMayFollow s es
+        → AreRun s es }
+    // So there is one order of all calls, in time by the places of the events, in which updates of one server stand as
+    // their faces were shown.
+    ensures order { (s : OpenedChain) (es : List Event)
+        → s.count ≤ 16 → IsOpened s → AreOf s es → EachMayFollow s es
+        → (h : List OrderedCall) × IsOrderOf s es h × IsInTurn s es h }
 {}

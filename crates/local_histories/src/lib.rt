@@ -3,5 +3,6 @@
 #![tactic(auto)]
 
 mod laws;
+pub mod worked;
 
-pub use laws::events_are_moves;
+pub use laws::{events_are_moves, following_events_are_runs};
