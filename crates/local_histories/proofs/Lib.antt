@@ -11,3 +11,6 @@ pub mod OneOrder
 pub mod MissedLook
 pub mod WorkedFollowing
 pub mod WithoutRules
+pub mod Inboxes
+pub mod OneSender
+pub mod LocalSteps

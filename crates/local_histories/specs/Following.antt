@@ -71,6 +71,15 @@ MayFollow s es (Broke i j) = Unit {0}
 abbrev pub EachMayFollow : OpenedChain → List Event → Type 0
 EachMayFollow s es = (n : ℕ) (e : Event) → slice_get es n ≡ Some e → MayFollow s (take n es) e
 
+-- What the turns of a worker come to at one event: it takes a message once it has shown all that it took; and it shows
+-- what it took, and puts what its steps have put out, as above.
+abbrev pub IsWorkerStep : OpenedChain → List Event → Event → Type 0
+IsWorkerStep s es (Taken i envelope) = has_halted i es ≡ false → given_to i es ≡ shown_by i es
+IsWorkerStep s es (Shown i input) = MayFollow s es (Shown i input)
+IsWorkerStep s es (Put i j peer) = MayFollow s es (Put i j peer)
+IsWorkerStep s es (Answered i reply) = MayFollow s es (Answered i reply)
+IsWorkerStep s es e = Unit {0}
+
 -- the moves of an event lead from each chain that those before it have left to one that they have left with it
 abbrev pub Leads : OpenedChain → List Event → Event → Type 0
 Leads s es e = (l : Chain) → StandsForChain s es l

@@ -110,6 +110,11 @@ abbrev pub BringsNoCall : Event → Type 0
 BringsNoCall (Brought i k (Took (Called port call))) = ⊥
 BringsNoCall e = Unit {0}
 
+-- A message is one of a server of the chain: `in_process_links`, `InboxLink::bring`: `ok`; `wire`, `peers`: who greets.
+abbrev pub IsOfChain : OpenedChain → Event → Type 0
+IsOfChain s (Brought i k (Took (From j peer))) = j < s.count
+IsOfChain s e = Unit {0}
+
 -- these two events are of one sender of one server, if both send calls of one port, or bring messages of one server:
 -- `io_threads`, `open_pools`: `senders` (a port's calls go by the sender of its pool); `links`, `PeerAdmission::admit`,
 -- and `in_process_links`, `all_links` (an id has one link, and that has one inlet)
@@ -124,13 +129,11 @@ HaveOneSender e f = Unit {0}
 abbrev pub AllBy : (List Event → Event → Type 0) → List Event → Type 0
 AllBy rule es = (n : ℕ) (e : Event) → slice_get es n ≡ Some e → rule (take n es) e
 
--- The events are right, object by object:
-pub record AreLocallyRight (s : OpenedChain) (es : List Event) : Type 0 where
+-- The events are right, object by object, but for the turns of workers:
+pub record KeepRules (s : OpenedChain) (es : List Event) : Type 0 where
   -- each inbox and each queue of replies keeps its rule, after each beginning;
   pub inboxes : (n i : ℕ) → i < s.count → HasInbox s i (take n es)
   pub replies : (n i p : ℕ) → i < s.count → p < s.ports i → HasReplies s i p (take n es)
-  -- each worker's events are turns;
-  pub turns : (i : ℕ) → i < s.count → HasTurns s i es
   -- what comes out of a link is a beginning of what was put on it;
   pub links : (n i j : ℕ) → IsPrefix (brought_from i j (take n es)) (messages_to j (put_by i (take n es)))
   -- a call is sent, and a look made, where no call is open;
@@ -139,6 +142,12 @@ pub record AreLocallyRight (s : OpenedChain) (es : List Event) : Type 0 where
   pub boards : AllBy (ShowsWhatStands s) es
   -- a notice tells of a server that has stopped;
   pub notices : AllBy (TellsOfStopped s) es
-  -- inlets bring no calls; and each port's calls have one sender, each server's messages one inlet.
-  pub inlets : AllBy (λ before e. BringsNoCall e) es
+  -- inlets bring no calls, and messages of servers of the chain alone; and each port's calls have one sender, each
+  -- server's messages one inlet.
+  pub inlets : AllBy (λ before e. BringsNoCall e × IsOfChain s e) es
   pub senders : (m n : ℕ) (e f : Event) → slice_get es m ≡ Some e → slice_get es n ≡ Some f → HaveOneSender e f
+
+-- And each worker's events are turns.
+pub record AreLocallyRight (s : OpenedChain) (es : List Event) : Type 0 where
+  pub rules : KeepRules s es
+  pub turns : (i : ℕ) → i < s.count → HasTurns s i es

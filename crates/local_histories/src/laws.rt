@@ -12,8 +12,8 @@ ghost use Rattle.local_histories.specs.Events.{Got, Looked, Halted, Broke};
 ghost use Rattle.local_histories.specs.Objects.{OpenedChain};
 ghost use Rattle.world.specs.Orders.{OrderedCall};
 ghost use Rattle.local_histories.specs.CallOrders.{IsOrderOf, IsInTurn};
-ghost use Rattle.local_histories.specs.Following.{MayFollow, EachMayFollow, Leads, AreRun};
-ghost use Rattle.local_histories.specs.LocalRules.{IsOpened, IsOf, AreOf};
+ghost use Rattle.local_histories.specs.Following.{MayFollow, EachMayFollow, IsWorkerStep, Leads, AreRun};
+ghost use Rattle.local_histories.specs.LocalRules.{IsOpened, IsOf, AreOf, AllBy, KeepRules};
 
 /// Each event that may follow others is the moves that `moves_of` says: they lead from each chain of the model that
 /// stands for the events before it to one that stands for those with it.
@@ -51,5 +51,22 @@ pub fn following_events_are_runs()
     // their faces were shown.
     ensures order { (s : OpenedChain) (es : List Event)
         → s.count ≤ 16 → IsOpened s → AreOf s es → EachMayFollow s es
+        → (h : List OrderedCall) × IsOrderOf s es h × IsInTurn s es h }
+{}
+
+/// Events that are right object by object, and whose workers take one step after another, may follow one another.
+pub fn rules_make_events_follow()
+    ensures { (s : OpenedChain) (es : List Event)
+        → AreOf s es → KeepRules s es → AllBy (IsWorkerStep s) es
+        → EachMayFollow s es }
+{}
+
+/// So local histories whose workers take one step after another are runs of moves, and have one order of their calls.
+pub fn histories_in_steps_are_runs()
+    ensures run { (s : OpenedChain) (es : List Event)
+        → IsOpened s → AreOf s es → KeepRules s es → AllBy (IsWorkerStep s) es
+        → AreRun s es }
+    ensures order { (s : OpenedChain) (es : List Event)
+        → s.count ≤ 16 → IsOpened s → AreOf s es → KeepRules s es → AllBy (IsWorkerStep s) es
         → (h : List OrderedCall) × IsOrderOf s es h × IsInTurn s es h }
 {}

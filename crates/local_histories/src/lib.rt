@@ -5,4 +5,7 @@
 mod laws;
 pub mod worked;
 
-pub use laws::{events_are_moves, following_events_are_runs};
+pub use laws::{
+    events_are_moves, following_events_are_runs, histories_in_steps_are_runs,
+    rules_make_events_follow,
+};
