@@ -14,3 +14,9 @@ pub mod WithoutRules
 pub mod Inboxes
 pub mod OneSender
 pub mod LocalSteps
+pub mod Parts
+pub mod TurnResults
+pub mod Turning
+pub mod BetweenTurns
+pub mod Counting
+pub mod StepsOfTurns

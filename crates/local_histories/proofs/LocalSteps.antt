@@ -141,7 +141,7 @@ module _ (s : OpenedChain) (es : List Event) (of_chain : AreOf s es) (rules : Ke
   sends_by p call (Halted g) m at has f q there = absurd has
   sends_by p call (Broke g y) m at has f q there = absurd has
 
-  next_call : (p : ℕ) (call : Call)
+  pub next_call : (p : ℕ) (call : Call)
       → envelope.inbox_message ≡ Took (Called p call)
       → GoesOnWith (calls_from p (given_to i before)) call (sent_from i p before)
   next_call p call is =

@@ -38,7 +38,7 @@ after_more : (n : ServerState) (xs : List Input) (x : Input) → after n (xs ++ 
 after_more n [] x = refl
 after_more n (y ∷ ys) x = after_more (step n y).state ys x
 
-put_out_more : (n : ServerState) (xs : List Input) (x : Input)
+pub put_out_more : (n : ServerState) (xs : List Input) (x : Input)
     → put_out n (xs ++ x ∷ []) ≡ put_out n xs ++ (step (after n xs) x).outputs
 put_out_more n [] x = append-nil (step n x).outputs
 put_out_more n (y ∷ ys) x = ap (λ os. (step n y).outputs ++ os) (put_out_more (step n y).state ys x)
@@ -108,7 +108,7 @@ shown_leads s es i input within going given l h =
 -- ---- a message is put
 
 -- what is put with one message more, by receivers
-linked_more : (k j : ℕ) (peer : Peer) (xs : List (ℕ × Peer))
+pub linked_more : (k j : ℕ) (peer : Peer) (xs : List (ℕ × Peer))
     → links.messages_to k (xs ++ (j, peer) ∷ []) ≡ links.messages_to k xs ++ only_if (j == k) peer
 linked_more k j peer [] = refl
 linked_more k j peer (x ∷ xs) = by (x.0 == k) (linked_more k j peer xs)

@@ -35,7 +35,7 @@ leads s es (Sent i k port call) opened of may =
     sent_leads s es i k port call of.0 (omega (arith, below, of.1)) may
 leads s es (Brought i k message) opened of may = brought_leads s es i k message
 leads s es (Taken i envelope) opened of may = taken_leads s es i envelope of may
-leads s es (Shown i input) opened of may = shown_leads s es i input of may.0 may.1
+leads s es (Shown i input) opened of may = shown_leads s es i input of.0 may.0 may.1
 leads s es (Put i j peer) opened of may = put_leads s es i j peer of may.0 may.1
 leads s es (Answered i reply) opened of may =
     let below = opened.seated i of.0 in
@@ -75,11 +75,11 @@ moves_in_two s before (x ∷ xs) fs =
     (all_moves_after s (before ++ x ∷ xs) fs))
 
 -- one event more, or none
-abbrev Next : List Event → ℕ → Type 0
+abbrev pub Next : List Event → ℕ → Type 0
 Next es n = (take (suc n) es ≡ take n es)
     ⊎ ((e : Event) × (slice_get es n ≡ Some e) × (take (suc n) es ≡ take n es ++ e ∷ []))
 
-next : (es : List Event) (n : ℕ) → Next es n
+pub next : (es : List Event) (n : ℕ) → Next es n
 next [] zero = inl refl
 next [] (suc n) = inl refl
 next (x ∷ xs) zero = inr (x, refl, refl)

@@ -5,6 +5,7 @@ use mathlib.Core.Option.{some}
 use mathlib.Core.List.{IsPrefix}
 use lib.ListN.{get_elem?}
 use Rattle.node.specs.declared.messages.Input.TheVariants.{Call as Called, From, Gone}
+use Rattle.node.specs.Lawful.{IsInput, HoldsEntry}
 use Rattle.node.specs.Servers.{opening}
 use Rattle.rail.specs.declared.inbox_messages.InboxMessage.TheVariants.{Took}
 use Rattle.rail.specs.declared.inbox_messages.Envelope.{Envelope}
@@ -32,12 +33,12 @@ pub record IsOpened (s : OpenedChain) : Type 0 where
   pub seated : (i : ℕ) → i < s.count → s.ports i ≤ seats_at s.homes i
 
 -- an event is one of a server of the chain, and names a port or a reader that it has; its call is one that clients can
--- ask
+-- ask, and its input one that a node may be given (`rail`, `FitInput`: `invariant`)
 abbrev pub IsOf : OpenedChain → Event → Type 0
 IsOf s (Sent i k port call) = (i < s.count) × (port < s.ports i) × IsAsked call
 IsOf s (Brought i k message) = i < s.count
 IsOf s (Taken i envelope) = i < s.count
-IsOf s (Shown i input) = i < s.count
+IsOf s (Shown i input) = (i < s.count) × IsInput input × HoldsEntry input
 IsOf s (Put i j peer) = i < s.count
 IsOf s (Answered i reply) = (i < s.count) × (reply.port < s.ports i)
 IsOf s (HandedBack i port) = (i < s.count) × (port < s.ports i)

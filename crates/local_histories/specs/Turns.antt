@@ -1,5 +1,5 @@
 -- The turns of a worker, cut into instants between which other events may stand.
-use Rattle.std.specs.Prelude.{◌≡◌, ◌⊎◌, ℕ, Bool, List, [], ◌∷◌, ◌++◌, if◌then◌else◌}
+use Rattle.std.specs.Prelude.{◌≡◌, ◌⊎◌, ℕ, Bool, List, [], ◌∷◌, ◌++◌, if◌then◌else◌, true}
 use Rattle.std.specs.declared.result.Result.{Result}
 use Rattle.rail.specs.declared.faults.RailFault.{RailFault}
 use Rattle.rail.specs.declared.workers.Turn.{Turn}
@@ -41,9 +41,15 @@ AreInOrder (Taken i envelope ∷ es) = FollowTaking es
 AreInOrder (Halted i ∷ es) = es ≡ []
 AreInOrder es = ⊥
 
+-- all of these are events of the worker of server i and of its links
+abbrev pub AreOwn : ℕ → List Event → Type 0
+AreOwn i [] = Unit {0}
+AreOwn i (e ∷ es) = (is_of_worker i e ≡ true) × AreOwn i es
+
 -- After these events of server i, those are one whole turn of its worker: they come in order, and what they make of the
 -- worker and of its links is what the contract of a turn says, with some answer. `rail`, `Worker::turn`: `turn`.
 pub record IsTurnAfter (s : OpenedChain) (i : ℕ) (before turn : List Event) : Type 0 where
+  pub own : AreOwn i turn
   pub in_order : AreInOrder turn
   pub result : Result Turn RailFault
   pub is : IsTurn (worker_after s i before) (worker_after s i (before ++ turn)) (links_after i before)

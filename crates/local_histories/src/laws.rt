@@ -14,6 +14,7 @@ ghost use Rattle.world.specs.Orders.{OrderedCall};
 ghost use Rattle.local_histories.specs.CallOrders.{IsOrderOf, IsInTurn};
 ghost use Rattle.local_histories.specs.Following.{MayFollow, EachMayFollow, IsWorkerStep, Leads, AreRun};
 ghost use Rattle.local_histories.specs.LocalRules.{IsOpened, IsOf, AreOf, AllBy, KeepRules};
+ghost use Rattle.local_histories.specs.LocalRules.{AreLocallyRight};
 
 /// Each event that may follow others is the moves that `moves_of` says: they lead from each chain of the model that
 /// stands for the events before it to one that stands for those with it.
@@ -68,5 +69,27 @@ pub fn histories_in_steps_are_runs()
         → AreRun s es }
     ensures order { (s : OpenedChain) (es : List Event)
         → s.count ≤ 16 → IsOpened s → AreOf s es → KeepRules s es → AllBy (IsWorkerStep s) es
+        → (h : List OrderedCall) × IsOrderOf s es h × IsInTurn s es h }
+{}
+
+/// Workers whose events are turns, as the contract of a turn says, take one step after another: each turn is cut into
+/// its instants, between which other events may stand.
+pub fn turns_are_steps()
+    ensures { (s : OpenedChain) (es : List Event)
+        → s.count ≤ 16 → IsOpened s → AreOf s es → AreLocallyRight s es
+        → AllBy (IsWorkerStep s) es }
+{}
+
+/// Local histories are runs: if each server, link, seat and reader did what the contracts of the code say of it, and
+/// each table's rule held at each instant, then all of it together is a run of moves of the running chain.
+pub fn local_histories_are_runs()
+    // After each beginning, what stands in the model is what the events have left.
+    ensures run { (s : OpenedChain) (es : List Event)
+        → s.count ≤ 16 → IsOpened s → AreOf s es → AreLocallyRight s es
+        → AreRun s es }
+    // So there is one order of all calls, in time by the places of the events, in which updates of one server stand as
+    // their faces were shown.
+    ensures order { (s : OpenedChain) (es : List Event)
+        → s.count ≤ 16 → IsOpened s → AreOf s es → AreLocallyRight s es
         → (h : List OrderedCall) × IsOrderOf s es h × IsInTurn s es h }
 {}

@@ -7,5 +7,5 @@ pub mod worked;
 
 pub use laws::{
     events_are_moves, following_events_are_runs, histories_in_steps_are_runs,
-    rules_make_events_follow,
+    local_histories_are_runs, rules_make_events_follow, turns_are_steps,
 };

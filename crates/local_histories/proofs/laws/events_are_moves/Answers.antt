@@ -32,7 +32,7 @@ pub returns-clause-taken : goal.returns-clause-taken
 returns-clause-taken c s es i envelope of may = taken_leads s es i envelope of may
 
 pub returns-clause-shown : goal.returns-clause-shown
-returns-clause-shown c s es i input of may = shown_leads s es i input of may.0 may.1
+returns-clause-shown c s es i input of may = shown_leads s es i input of.0 may.0 may.1
 
 pub returns-clause-put : goal.returns-clause-put
 returns-clause-put c s es i j peer of may = put_leads s es i j peer of may.0 may.1
