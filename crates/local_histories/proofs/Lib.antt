@@ -20,3 +20,4 @@ pub mod Turning
 pub mod BetweenTurns
 pub mod Counting
 pub mod StepsOfTurns
+pub mod WorkedRight

@@ -107,6 +107,10 @@ older_events =
     Sent 0 0 0 set ∷ Taken 0 (envelope 0 (Called 0 set)) ∷ Shown 0 (Called 0 set)
     ∷ Answered 0 (stored_by 1 0 (Called 0 set ∷ [])) ∷ Got 0 (stored_by 1 0 (Called 0 set ∷ [])) ∷ []
 
+-- the same, and the look finds what stands: no rule is broken
+abbrev pub look_at_last : Event
+look_at_last = Looked 0 1 key (after_inputs 1 0 (Called 0 set ∷ []))
+
 -- two servers: the head is told that the tail has stopped, which goes on, and the look is at the tail
 unfoldable pub told_events : List Event
 told_events =

@@ -4,9 +4,11 @@ ghost use Rattle.table.specs.declared.operations.Reply.TheVariants.{Stored};
 ghost use Rattle.world.specs.WorkedSchedules.{name};
 ghost use Rattle.local_histories.specs.CallOrders.{reply_to, HasNoOrder};
 ghost use Rattle.local_histories.specs.Following.{MayFollow};
+ghost use Rattle.local_histories.specs.LocalRules.{IsOpened, AreOf, AreLocallyRight};
 ghost use Rattle.local_histories.specs.Standing.{all_moves};
 ghost use Rattle.local_histories.specs.WorkedHistories.{opened, head_and_tail, set_events, look_at_tail};
-ghost use Rattle.local_histories.specs.WorkedHistories.{set_and_look_moves, look_at_first, alone, older_events};
+ghost use Rattle.local_histories.specs.WorkedHistories.{set_and_look_moves, look_at_first, look_at_last, alone};
+ghost use Rattle.local_histories.specs.WorkedHistories.{older_events};
 ghost use Rattle.local_histories.specs.WorkedHistories.{told_events, unput_events, tail_and_head, early_events};
 ghost use Rattle.local_histories.specs.WrongRules.{AllFollow, FollowsWithoutBoards, FollowsWithoutNotices};
 ghost use Rattle.local_histories.specs.WrongRules.{FollowsWithoutLinks, FollowsWithoutTurns};
@@ -16,6 +18,14 @@ pub fn set_and_look_follow()
     ensures follow { AllFollow MayFollow (opened 2 head_and_tail) [] (set_events ++ look_at_tail ∷ []) }
     ensures moves { all_moves (opened 2 head_and_tail) (set_events ++ look_at_tail ∷ []) ≡ set_and_look_moves }
     ensures stored { reply_to (opened 2 head_and_tail) set_events (name 0 0) ≡ Some Stored }
+{}
+
+/// One server: a client sets a key, and a reader without a port looks. Each object did what its contract says: so the
+/// premises of the law can be met.
+pub fn set_and_look_are_right()
+    ensures opened { IsOpened (opened 1 alone) }
+    ensures events { AreOf (opened 1 alone) (older_events ++ look_at_last ∷ []) }
+    ensures right { AreLocallyRight (opened 1 alone) (older_events ++ look_at_last ∷ []) }
 {}
 
 /// If a look may find an older face than the one that stands, a history has no order.
