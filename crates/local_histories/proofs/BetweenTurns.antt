@@ -1,19 +1,17 @@
 -- What is known between turns is known after each turn; and so at each event of a worker.
-use Rattle.std.proofs.Common.{◌≡◌, ℕ, zero, suc, ◌+◌, ◌<◌, ◌≤◌, Bool, true, false, cond, List, [], ◌∷◌, ◌++◌, length, refl}
-use Rattle.std.proofs.Common.{arith, ap, sym, ◌∙◌, subst, inl, inr, ◌⊎◌, append_assoc, eq-eqb, length-append}
+use Rattle.std.proofs.Common.{◌≡◌, ℕ, Bool, true, false, cond, List, [], ◌∷◌, ◌++◌, length, refl}
+use Rattle.std.proofs.Common.{arith, ap, sym, ◌∙◌, subst, inl, inr, append_assoc, eq-eqb, length-append}
 use Rattle.std.specs.Prelude.{◌==◌, ◌||◌, not}
 use Rattle.std.specs.declared.result.Result.{Result}
 use Rattle.std.specs.declared.result.Result.TheVariants.{Ok, Err}
 use Rattle.std.proofs.lemmas.Bool.{both_ways, eqb-true, or_parts, or_right}
 use Rattle.std.proofs.lemmas.List.{append_cancel_left, append-nil}
 use Rattle.node.specs.declared.messages.Input.{Input}
-use Rattle.node.specs.declared.messages.Peer.{Peer}
-use Rattle.node.specs.Runs.{after, put_out}
+use Rattle.node.specs.Runs.{put_out}
 use Rattle.faces.specs.Histories.{History}
 use Rattle.rail.specs.declared.faults.RailFault.{RailFault}
 use Rattle.rail.specs.declared.faults.RailFault.TheVariants.{Memory, Closed, LinkDown, NoReader}
 use Rattle.rail.specs.declared.inbox_messages.Envelope.{Envelope}
-use Rattle.rail.specs.declared.inbox_messages.InboxMessage.TheVariants.{Took, Stop, End}
 use Rattle.rail.specs.declared.workers.Turn.{Turn}
 use Rattle.rail.specs.declared.workers.Turn.TheVariants.{Went, Stopped, End as Ended}
 use Rattle.rail.specs.Links as links
@@ -23,18 +21,18 @@ use Rattle.interleavings.proofs.lists.Joined.{messages_to-append, replies_to-app
 use Rattle.local_histories.specs.Events.{Event, Sent, Brought, Taken, Shown, Put, Answered, HandedBack, Got, Looked}
 use Rattle.local_histories.specs.Events.{Halted, Broke}
 use Rattle.local_histories.specs.Objects.{OpenedChain, gathered, only_if, inputs_in, takes, taken_by, shows, shown_by}
-use Rattle.local_histories.specs.Objects.{is_halt, has_halted, answers, answered_at, published_by, worker_after}
+use Rattle.local_histories.specs.Objects.{is_halt, has_halted, answers, answered_at, worker_after}
 use Rattle.local_histories.specs.Objects.{links_after, puts, put_by, breaks, failures_by}
 use Rattle.local_histories.specs.Standing.{replies_in, takes_input, given_to}
 use Rattle.local_histories.specs.Turns.{AreOutputs, IsTurnAfter, IsBreak, AreTurns, joined, IsBegunAfter, MayEnd}
 use Rattle.local_histories.specs.Following.{outputs_of}
-use Rattle.local_histories.proofs.Gathering.{gathered_more, gathered_same, given_same, halted_same, given_more}
+use Rattle.local_histories.proofs.Gathering.{gathered_more, gathered_same, given_same, halted_same}
 use Rattle.local_histories.proofs.Outputs.{put_out_more}
 use Rattle.local_histories.proofs.Parts.{Sub, sub_both, in_either, gathered-append, halted-append}
 use Rattle.local_histories.proofs.SeatEvents.{replies_in-append}
 use Rattle.local_histories.proofs.TurnResults.{one_more_apart, outs}
-use Rattle.local_histories.proofs.Turning.{Between, between_at_first, IsTurnStep, outputs_quiet, given-append, adv}
-use Rattle.local_histories.proofs.Turning.{taken_is, shown_is, links_append, turn_step, halt_step}
+use Rattle.local_histories.proofs.Turning.{Between, between_at_first, IsTurnStep, given-append, adv}
+use Rattle.local_histories.proofs.Turning.{taken_is, shown_is, links_append, turn_step}
 
 no_inputs : (i : ℕ) (es : List Event) → AreOutputs es → gathered (takes_input i) es ≡ []
 no_inputs i [] h = refl

@@ -1,25 +1,23 @@
 -- No port is replied to more often than it has calls, and no port has more calls than one for which no reply was taken.
-use Rattle.std.proofs.Common.{◌≡◌, ◌≢◌, ℕ, zero, suc, ◌+◌, ◌<◌, ◌≤◌, Bool, true, false, cond, List, [], ◌∷◌, ◌++◌, length}
-use Rattle.std.proofs.Common.{take, Some, refl, arith, ap, sym, ◌∙◌, subst, inl, inr, append_assoc, eq-eqb, length-append}
+use Rattle.std.proofs.Common.{◌≡◌, ℕ, zero, suc, ◌+◌, ◌<◌, ◌≤◌, Bool, true, false, cond, List, [], ◌∷◌, ◌++◌, length}
+use Rattle.std.proofs.Common.{take, Some, refl, arith, ap, sym, ◌∙◌, subst, inl, inr, append_assoc, eq-eqb}
+use Rattle.std.proofs.Common.{length-append}
 use Rattle.std.specs.Prelude.{◌==◌, ◌&&◌, not, slice_get}
 use Rattle.std.specs.Bool.{beq}
 use Rattle.std.proofs.lemmas.Bool.{cases_eq, cases_Bool, ne_eqb, eqb-true, and_parts}
-use Rattle.std.proofs.lemmas.List.{append-nil}
 use Rattle.table.specs.Operations.{is_update, is_value}
 use Rattle.table.specs.declared.operations.Call.{Call}
-use Rattle.table.specs.declared.operations.Reply.{Reply}
 use Rattle.node.specs.declared.messages.Input.{Input}
 use Rattle.node.specs.declared.messages.Input.TheVariants.{Call as Called, From, Gone}
 use Rattle.node.specs.declared.messages.Output.{Output}
 use Rattle.node.specs.declared.messages.Output.TheVariants.{To, Reply as Replied}
-use Rattle.node.specs.Lawful.{IsLawful}
 use Rattle.node.specs.Replies.{is_call_at, is_reply_at, calls_at, replies_at}
 use Rattle.node.specs.Runs.{put_out, AreInputs}
 use Rattle.node.specs.Servers.{ServerState, opening}
 use Rattle.node.proofs.Counts.{count-append}
 use Rattle.node.proofs.PortLaws.{opening-none_open}
 use Rattle.node.proofs.RuleLaws.{lawful-opening}
-use Rattle.node.proofs.RunLaws.{closed-after, inputs-append}
+use Rattle.node.proofs.RunLaws.{closed-after}
 use Rattle.rail.specs.declared.inbox_messages.Envelope.{Envelope}
 use Rattle.rail.specs.declared.inbox_messages.InboxMessage.{InboxMessage}
 use Rattle.rail.specs.declared.inbox_messages.InboxMessage.TheVariants.{Took, Stop, End}
@@ -28,19 +26,20 @@ use Rattle.interleavings.specs.Chains.{calls_from, replies_to}
 use Rattle.interleavings.proofs.lists.Joined.{calls_from-append}
 use Rattle.local_histories.specs.Events.{Event, Sent, Brought, Taken, Shown, Put, Answered, HandedBack, Got, Looked}
 use Rattle.local_histories.specs.Events.{Halted, Broke}
-use Rattle.local_histories.specs.Objects.{OpenedChain, gathered, only_if, sends_from, sent_from, inputs_in, shows, shown_by}
+use Rattle.local_histories.specs.Objects.{OpenedChain, only_if, sends_from, sent_from, inputs_in, shown_by}
 use Rattle.local_histories.specs.Objects.{has_halted, answered_at, gets, got_at, address_at}
-use Rattle.local_histories.specs.LocalRules.{IsOpened, IsOf, AreOf, KeepRules, HasReplies}
-use Rattle.local_histories.specs.Standing.{takes_input, given_to}
-use Rattle.local_histories.specs.Following.{GoesOnWith, outputs_of}
+use Rattle.local_histories.specs.LocalRules.{IsOpened, AreOf, KeepRules}
+use Rattle.local_histories.specs.Standing.{given_to}
+use Rattle.local_histories.specs.Following.{outputs_of}
 use Rattle.local_histories.proofs.Gathering.{gathered_more, gathered_same, given_more, given_no_more, given_same}
 use Rattle.local_histories.proofs.Keeping.{elsewhere}
 use Rattle.local_histories.proofs.LocalSteps.{next_call}
-use Rattle.local_histories.proofs.Runs.{Next, next, of_each}
+use Rattle.local_histories.proofs.Runs.{Next, next}
 
 -- ---- replies and calls of a port, by their kinds
 
-length_if : {X : Type 0} (b : Bool) (x : X) (xs : List X) → length (cond b (x ∷ xs) xs) ≡ cond b (suc (length xs)) (length xs)
+length_if : {X : Type 0} (b : Bool) (x : X) (xs : List X)
+    → length (cond b (x ∷ xs) xs) ≡ cond b (suc (length xs)) (length xs)
 length_if true x xs = refl
 length_if false x xs = refl
 
@@ -149,26 +148,28 @@ module _ (s : OpenedChain) (es : List Event) (of_chain : AreOf s es) (rules : Ke
       → given_to i (fs ++ e ∷ []) ≡ given_to i fs
       → Begin fs
       → Begin (fs ++ e ∷ [])
-  kept fs e same b =
-      (b.0 ++ sends_from i p e,
-      gathered_more (sends_from i p) fs e ∙ ap (λ cs. cs ++ sends_from i p e) b.1
-      ∙ append_assoc (calls_from p (given_to i fs)) b.0 (sends_from i p e)
-      ∙ ap (λ xs. calls_from p xs ++ (b.0 ++ sends_from i p e)) (sym same))
+  kept fs e same b = (
+    b.0 ++ sends_from i p e,
+    gathered_more (sends_from i p) fs e ∙ ap (λ cs. cs ++ sends_from i p e) b.1
+        ∙ append_assoc (calls_from p (given_to i fs)) b.0 (sends_from i p e)
+        ∙ ap (λ xs. calls_from p xs ++ (b.0 ++ sends_from i p e)) (sym same),
+  )
 
   given : (fs : List Event) (envelope : Envelope) (xs : List Input) (rest : List Call)
       → has_halted i fs ≡ false
       → inputs_in envelope.inbox_message ≡ xs
       → sent_from i p fs ≡ calls_from p (given_to i fs) ++ (calls_from p xs ++ rest)
       → Begin (fs ++ Taken i envelope ∷ [])
-  given fs envelope xs rest going is b =
-      (rest,
-      gathered_same (sends_from i p) fs (Taken i envelope) refl ∙ b
-      ∙ sym (append_assoc (calls_from p (given_to i fs)) (calls_from p xs) rest)
-      ∙ ap (λ cs. cs ++ rest) (sym (calls_from-append p (given_to i fs) xs))
-      ∙ ap (λ ys. calls_from p ys ++ rest)
-      (sym (given_more i fs (Taken i envelope) going refl
-      ∙ ap (λ c. given_to i fs ++ cond c (inputs_in envelope.inbox_message) []) (eq-eqb i i refl)
-      ∙ ap (λ ys. given_to i fs ++ ys) is)))
+  given fs envelope xs rest going is b = (
+    rest,
+    gathered_same (sends_from i p) fs (Taken i envelope) refl ∙ b
+        ∙ sym (append_assoc (calls_from p (given_to i fs)) (calls_from p xs) rest)
+        ∙ ap (λ cs. cs ++ rest) (sym (calls_from-append p (given_to i fs) xs))
+        ∙ ap (λ ys. calls_from p ys ++ rest)
+        (sym (given_more i fs (Taken i envelope) going refl
+        ∙ ap (λ c. given_to i fs ++ cond c (inputs_in envelope.inbox_message) []) (eq-eqb i i refl)
+        ∙ ap (λ ys. given_to i fs ++ ys) is)),
+  )
 
   taken : (n : ℕ) (envelope : Envelope) (m : InboxMessage)
       → envelope.inbox_message ≡ m
@@ -289,8 +290,11 @@ module _ (s : OpenedChain) (es : List Event) (of_chain : AreOf s es) (rules : Ke
       let fs = take n es in
       let start = opened.start i within in
       let replies : length (replies_to p (outputs_of s i fs)) ≤ length (calls_from p (shown_by i fs)) =
-      subst (λ (x : ServerState). length (replies_to p (put_out x (shown_by i fs))) ≤ length (calls_from p (shown_by i fs)))
-      (sym start) (replies_within i s.count p (shown_by i fs) within few (shown_fit s i fs (take_of s n es of_chain))) in
+      subst
+      (λ (x : ServerState).
+      length (replies_to p (put_out x (shown_by i fs))) ≤ length (calls_from p (shown_by i fs)))
+      (sym start)
+      (replies_within i s.count p (shown_by i fs) within few (shown_fit s i fs (take_of s n es of_chain))) in
       let begins = given_begins n in
       let sent = ap (λ xs. length xs) begins.1 in
       let sum = length-append (calls_from p (given_to i fs)) begins.0 in

@@ -1,15 +1,14 @@
 -- Events that are no move, and a halt.
 use Rattle.std.proofs.Common.{◌≡◌, ℕ, ◌<◌, true, List, [], ◌∷◌, ◌++◌, refl, ap, sym, ◌∙◌, eq-eqb}
-use Rattle.std.specs.Prelude.{◌||◌}
 use Rattle.std.proofs.lemmas.Bool.{or_right}
 use Rattle.node.specs.Runs.{after, put_out}
 use Rattle.rail.specs.declared.inbox_messages.InboxMessage.{InboxMessage}
 use Rattle.rail.specs.Links as links
-use Rattle.interleavings.specs.Chains.{RunningServer, Chain, listed, calls_from, messages_to, replies_to}
+use Rattle.interleavings.specs.Chains.{RunningServer, listed, calls_from, messages_to, replies_to}
 use Rattle.local_histories.specs.Events.{Event, Brought, HandedBack, Halted, Broke}
 use Rattle.local_histories.specs.Objects.{OpenedChain, sends_from, all_messages_from, shows, answers, puts, has_halted}
 use Rattle.local_histories.specs.Objects.{is_halt}
-use Rattle.local_histories.specs.Standing.{replies_in, StandsForServer, StandsForChain, home_of, port_of}
+use Rattle.local_histories.specs.Standing.{replies_in, StandsForServer, home_of, port_of}
 use Rattle.local_histories.specs.Following.{Leads}
 use Rattle.local_histories.proofs.Gathering.{gathered_same, given_same, halted_more}
 use Rattle.local_histories.proofs.Keeping.{quiet, quiet_at, elsewhere, all_kept, one_server, seat_kept}

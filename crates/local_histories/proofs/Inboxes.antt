@@ -1,27 +1,21 @@
 -- What the rule of an inbox comes to: what is taken next, of each port and of each server.
-use Rattle.std.proofs.Common.{◌≡◌, ◌≢◌, ℕ, zero, suc, ◌<◌, ◌≤◌, Bool, true, false, cond, List, [], ◌∷◌, ◌++◌, Some, refl}
-use Rattle.std.proofs.Common.{arith, ap, sym, ◌∙◌, subst, inl, inr, ◌⊎◌, append_assoc, eq-eqb}
-use Rattle.std.specs.Prelude.{◌==◌, ◌&&◌, ◌||◌, slice_get, take}
-use Rattle.std.proofs.lemmas.Bool.{cases_eq, cases_lt, ne_eqb, eqb-true, and_from, and_left, and_right, or_parts}
+use Rattle.std.proofs.Common.{◌≡◌, ◌≢◌, ℕ, Bool, true, false, cond, List, [], ◌∷◌, ◌++◌, refl}
+use Rattle.std.proofs.Common.{ap, sym, ◌∙◌, inl, inr, append_assoc, eq-eqb}
+use Rattle.std.specs.Prelude.{◌==◌}
+use Rattle.std.proofs.lemmas.Bool.{cases_eq, cases_lt, ne_eqb, or_parts}
 use Rattle.std.proofs.lemmas.List.{append-nil}
 use mathlib.Core.List.{IsPrefix}
-use Rattle.table.specs.declared.operations.Call.{Call}
 use Rattle.node.specs.declared.messages.Input.{Input}
-use Rattle.node.specs.declared.messages.Input.TheVariants.{Call as Called, From, Gone}
-use Rattle.node.specs.declared.messages.Peer.{Peer}
 use Rattle.rail.specs.declared.inbox_messages.Envelope.{Envelope}
 use Rattle.rail.specs.declared.inbox_messages.InboxMessage.{InboxMessage}
-use Rattle.rail.specs.declared.inbox_messages.InboxMessage.TheVariants.{Took, Stop, End}
-use Rattle.rail.specs.Inbox.{of, sender, taker}
+use Rattle.rail.specs.Inbox.{of, taker}
 use Rattle.rail.proofs.Beginnings.{taken_of}
-use Rattle.interleavings.specs.Chains.{calls_from}
-use Rattle.interleavings.proofs.lists.Joined.{calls_from-append}
 use Rattle.local_histories.specs.Events.{Event, Sent, Brought, Taken, Shown, Put, Answered, HandedBack, Got, Looked}
 use Rattle.local_histories.specs.Events.{Halted, Broke}
-use Rattle.local_histories.specs.Objects.{OpenedChain, gathered, only_if, sends, sent_by, sends_from, sent_from, inputs_in}
-use Rattle.local_histories.specs.Objects.{brings, message_from, all_messages_from, brought_from, takes, taken_by}
+use Rattle.local_histories.specs.Objects.{OpenedChain, gathered, only_if, sent_by, inputs_in}
+use Rattle.local_histories.specs.Objects.{message_from, all_messages_from, takes, taken_by}
 use Rattle.local_histories.specs.Objects.{is_halt, has_halted}
-use Rattle.local_histories.specs.LocalRules.{HasInbox, BringsNoCall}
+use Rattle.local_histories.specs.LocalRules.{HasInbox}
 use Rattle.local_histories.specs.Standing.{before_halt, takes_input, given_to}
 use Rattle.local_histories.specs.Following.{GoesOnWith}
 
@@ -86,9 +80,11 @@ pub begins_sent : (s : OpenedChain) (i : ℕ) (es : List Event) (k : ℕ)
     → IsPrefix (of k (taken_by i es)) (sent_by i k es)
 begins_sent s i es k h = elim (cases_lt k h.made) [
   | inl below ↦
-      let at = h.sends k below in
-      (of k h.items, sym (taken_of h.items h.views at.0 h.receiver k at.1 (sent_by i k es) h.made h.ports (taken_by i es)
-      h.rule at.2 h.takes))
+      let at = h.sends k below in (
+        of k h.items,
+        sym (taken_of h.items h.views at.0 h.receiver k at.1 (sent_by i k es) h.made h.ports (taken_by i es)
+            h.rule at.2 h.takes),
+      )
   | inr above ↦
       let mine = (h.rule.each h.receiver (taker h.made h.ports (taken_by i es)) h.takes).1 refl in
       let nothing : of k (h.rule.got ++ h.items) ≡ [] = h.rule.order k ∙ (mine.3 k above).1 in
@@ -105,11 +101,13 @@ pub next_sent : (s : OpenedChain) (i : ℕ) (es : List Event) (m : Envelope)
     → taken_by i (es ++ Taken i m ∷ []) ≡ taken_by i es ++ m ∷ []
     → GoesOnWith (of m.from (taken_by i es)) m.inbox_message (sent_by i m.from es)
 next_sent s i es m h sent taken =
-    let front = begins_sent s i (es ++ Taken i m ∷ []) m.from h in
-    (front.0, sym sent ∙ sym front.1
-    ∙ ap (λ xs. xs ++ front.0) (ap (of m.from) taken ∙ of_more m.from (taken_by i es) m
-    ∙ ap (λ b. of m.from (taken_by i es) ++ only_if b m.inbox_message) (eq-eqb m.from m.from refl))
-    ∙ append_assoc (of m.from (taken_by i es)) (m.inbox_message ∷ []) front.0)
+    let front = begins_sent s i (es ++ Taken i m ∷ []) m.from h in (
+      front.0,
+      sym sent ∙ sym front.1
+          ∙ ap (λ xs. xs ++ front.0) (ap (of m.from) taken ∙ of_more m.from (taken_by i es) m
+          ∙ ap (λ b. of m.from (taken_by i es) ++ only_if b m.inbox_message) (eq-eqb m.from m.from refl))
+          ∙ append_assoc (of m.from (taken_by i es)) (m.inbox_message ∷ []) front.0,
+    )
 
 -- ---- what a server is given
 
@@ -183,8 +181,9 @@ module _ {X : Type 0} (view : List Input → List X) (empty : view [] ≡ [])
   pub next_seen : (front : List InboxMessage) (m : InboxMessage) (whole : List InboxMessage)
       → GoesOnWith front m whole
       → (rest : List X) × (view (all_inputs whole) ≡ view (all_inputs front) ++ (view (inputs_in m) ++ rest))
-  next_seen front m whole next =
-      (view (all_inputs next.0),
-      ap (λ ms. view (all_inputs ms)) next.1 ∙ ap view (all_inputs-append front (m ∷ next.0))
-      ∙ both (all_inputs front) (inputs_in m ++ all_inputs next.0)
-      ∙ ap (λ xs. view (all_inputs front) ++ xs) (both (inputs_in m) (all_inputs next.0)))
+  next_seen front m whole next = (
+    view (all_inputs next.0),
+    ap (λ ms. view (all_inputs ms)) next.1 ∙ ap view (all_inputs-append front (m ∷ next.0))
+        ∙ both (all_inputs front) (inputs_in m ++ all_inputs next.0)
+        ∙ ap (λ xs. view (all_inputs front) ++ xs) (both (inputs_in m) (all_inputs next.0)),
+  )

@@ -1,9 +1,8 @@
 -- Events that are right object by object may follow one another.
-use Rattle.std.proofs.Common.{◌≡◌, ◌≢◌, ℕ, zero, suc, ◌<◌, Bool, true, false, List, [], ◌∷◌, ◌++◌, Some, refl, ap, sym, ◌∙◌}
+use Rattle.std.proofs.Common.{◌≡◌, ℕ, suc, ◌<◌, true, false, List, [], ◌∷◌, ◌++◌, Some, refl, ap, sym, ◌∙◌}
 use Rattle.std.proofs.Common.{subst, inl, inr, append_assoc, eq-eqb}
-use Rattle.std.specs.Prelude.{◌==◌, ◌&&◌, not, nat_lt, slice_get, take}
-use Rattle.std.proofs.lemmas.Bool.{eqb-true, and_parts, and_cases, lt-ltb, cases_Bool, true≢false, both_ways}
-use Rattle.std.proofs.lemmas.List.{append-nil}
+use Rattle.std.specs.Prelude.{◌==◌, ◌&&◌, not, slice_get, take}
+use Rattle.std.proofs.lemmas.Bool.{eqb-true, and_parts, lt-ltb, cases_Bool, both_ways}
 use mathlib.Core.List.{IsPrefix}
 use Rattle.table.specs.declared.operations.Call.{Call}
 use Rattle.node.specs.declared.messages.Input.{Input}
@@ -20,15 +19,15 @@ use Rattle.interleavings.specs.Chains.{calls_from}
 use Rattle.interleavings.proofs.lists.Joined.{calls_from-append}
 use Rattle.local_histories.specs.Events.{Event, Sent, Brought, Taken, Shown, Put, Answered, HandedBack, Got, Looked}
 use Rattle.local_histories.specs.Events.{Halted, Broke}
-use Rattle.local_histories.specs.Objects.{OpenedChain, gathered, only_if, sends, sent_by, sent_from, all_messages_from}
+use Rattle.local_histories.specs.Objects.{OpenedChain, only_if, sends, sent_by, sent_from, all_messages_from}
 use Rattle.local_histories.specs.Objects.{brought_from, takes, taken_by, has_halted, answers, answered_at, gets, got_at}
 use Rattle.local_histories.specs.Objects.{goes_on, put_by, address_at}
-use Rattle.local_histories.specs.LocalRules.{IsOf, AreOf, HasInbox, AllBy, KeepRules, BringsNoCall, HaveOneSender}
+use Rattle.local_histories.specs.LocalRules.{AreOf, HasInbox, AllBy, KeepRules, BringsNoCall}
 use Rattle.local_histories.specs.LocalRules.{HasReplies, TellsOfStopped}
 use Rattle.local_histories.specs.Standing.{given_to, replies_in}
-use Rattle.local_histories.specs.Following.{GoesOnWith, IsNextMessage, MayFollow, EachMayFollow, IsWorkerStep}
+use Rattle.local_histories.specs.Following.{GoesOnWith, IsNextMessage, EachMayFollow, IsWorkerStep}
 use Rattle.local_histories.proofs.Gathering.{gathered_more, gathered_same}
-use Rattle.local_histories.proofs.Inboxes.{all_inputs, messages_in, all_messages_from-append, both_empty, begins_sent}
+use Rattle.local_histories.proofs.Inboxes.{all_inputs, all_messages_from-append, both_empty, begins_sent}
 use Rattle.local_histories.proofs.Inboxes.{given_is_taken, next_sent, one_taker, next_seen, all_inputs-append}
 use Rattle.local_histories.proofs.OneSender.{AllOf, all_of, Has, has_behind, found, has_only, take_get, take_next}
 use Rattle.local_histories.proofs.OneSender.{halted_later, SendsBy, calls_sent, no_calls_sent, BringsBy}
@@ -64,9 +63,11 @@ longer : {X : Type 0} (front : List X) (x : X) (xs whole : List X)
     → GoesOnWith front x xs
     → IsPrefix xs whole
     → GoesOnWith front x whole
-longer front x xs whole next begins =
-    (next.0 ++ begins.0, sym begins.1 ∙ ap (λ ys. ys ++ begins.0) next.1
-    ∙ append_assoc front (x ∷ next.0) begins.0)
+longer front x xs whole next begins = (
+  next.0 ++ begins.0,
+  sym begins.1 ∙ ap (λ ys. ys ++ begins.0) next.1
+      ∙ append_assoc front (x ∷ next.0) begins.0,
+)
 
 module _ (s : OpenedChain) (es : List Event) (of_chain : AreOf s es) (rules : KeepRules s es)
     (n i : ℕ) (envelope : Envelope) (here : slice_get es n ≡ Some (Taken i envelope)) (within : i < s.count)
@@ -157,10 +158,12 @@ module _ (s : OpenedChain) (es : List Event) (of_chain : AreOf s es) (rules : Ke
       ap (calls_from p) (given_is_taken i before going)
       ∙ one_taker (calls_from p) refl both k0 (taken_by i before)
       (λ k other. nothing_seen (calls_from p) both (of k (taken_by i before)) (sent_by i k before) (begins_then k)
-      (no_calls_sent i p k0 k before other by)) in
-      (seen.0, calls_sent i p k0 before by ∙ seen.1
-      ∙ ap (λ cs. cs ++ (calls_from p (Called p call ∷ []) ++ seen.0)) (sym front)
-      ∙ ap (λ b. calls_from p (given_to i before) ++ (only_if b call ++ seen.0)) (eq-eqb p p refl))
+      (no_calls_sent i p k0 k before other by)) in (
+        seen.0,
+        calls_sent i p k0 before by ∙ seen.1
+            ∙ ap (λ cs. cs ++ (calls_from p (Called p call ∷ []) ++ seen.0)) (sym front)
+            ∙ ap (λ b. calls_from p (given_to i before) ++ (only_if b call ++ seen.0)) (eq-eqb p p refl),
+      )
 
   -- ---- a message
 
@@ -210,7 +213,8 @@ module _ (s : OpenedChain) (es : List Event) (of_chain : AreOf s es) (rules : Ke
 
   next_peer : (j : ℕ) (peer : Peer)
       → envelope.inbox_message ≡ Took (From j peer)
-      → (j < s.count) × GoesOnWith (all_messages_from j (given_to i before)) peer (links.messages_to i (put_by j before))
+      → (j < s.count)
+      × GoesOnWith (all_messages_from j (given_to i before)) peer (links.messages_to i (put_by j before))
   next_peer j peer is =
       let w = was_sent in
       let at = take_get es n w.0 w.1 w.2 in
@@ -230,13 +234,16 @@ module _ (s : OpenedChain) (es : List Event) (of_chain : AreOf s es) (rules : Ke
       ∙ one_taker (all_messages_from j) refl both k0 (taken_by i before)
       (λ k other. nothing_seen (all_messages_from j) both (of k (taken_by i before)) (sent_by i k before)
       (begins_then k) (no_messages_brought i j k0 k before other by)) in
-      let brought : GoesOnWith (all_messages_from j (given_to i before)) peer (brought_from j i before) =
-      (seen.0, messages_brought i j k0 before by ∙ seen.1
-      ∙ ap (λ ms. ms ++ (all_messages_from j (From j peer ∷ []) ++ seen.0)) (sym front)
-      ∙ ap (λ b. all_messages_from j (given_to i before) ++ ((only_if b peer ++ []) ++ seen.0)) (eq-eqb j j refl)) in
-      ((rules.inlets w.0 (Brought i came.0 (Took (From j peer))) there).1,
-      longer (all_messages_from j (given_to i before)) peer (brought_from j i before)
-      (links.messages_to i (put_by j before)) brought (rules.links n j i))
+      let brought : GoesOnWith (all_messages_from j (given_to i before)) peer (brought_from j i before) = (
+        seen.0,
+        messages_brought i j k0 before by ∙ seen.1
+            ∙ ap (λ ms. ms ++ (all_messages_from j (From j peer ∷ []) ++ seen.0)) (sym front)
+            ∙ ap (λ b. all_messages_from j (given_to i before) ++ ((only_if b peer ++ []) ++ seen.0)) (eq-eqb j j refl),
+      ) in (
+        (rules.inlets w.0 (Brought i came.0 (Took (From j peer))) there).1,
+        longer (all_messages_from j (given_to i before)) peer (brought_from j i before)
+            (links.messages_to i (put_by j before)) brought (rules.links n j i),
+      )
 
   -- ---- a notice
 
@@ -288,13 +295,14 @@ next_reply s es rules n i reply here within below =
     let is = taken_from h.items h.views h.sender h.receiver (address_at s i p) (address_at s i p)
     (answered_at i p (before ++ e ∷ [])) (got_at i p (before ++ e ∷ [])) h.rule h.puts h.takes in
     let got_now : got_at i p (before ++ e ∷ []) ≡ got_at i p before ++ reply ∷ [] =
-    gathered_more (gets i p) before e ∙ ap (λ b. got_at i p before ++ only_if b reply) (both_same i p) in
-    (replies_in h.items,
-    ap replies_in (sym (gathered_same (answers i p) before e refl) ∙ is)
-    ∙ replies_in-append (got_at i p (before ++ e ∷ [])) h.items
-    ∙ ap (λ rs. replies_in rs ++ replies_in h.items) got_now
-    ∙ ap (λ rs. rs ++ replies_in h.items) (replies_in-append (got_at i p before) (reply ∷ []))
-    ∙ append_assoc (replies_in (got_at i p before)) (reply.reply ∷ []) (replies_in h.items))
+    gathered_more (gets i p) before e ∙ ap (λ b. got_at i p before ++ only_if b reply) (both_same i p) in (
+      replies_in h.items,
+      ap replies_in (sym (gathered_same (answers i p) before e refl) ∙ is)
+          ∙ replies_in-append (got_at i p (before ++ e ∷ [])) h.items
+          ∙ ap (λ rs. replies_in rs ++ replies_in h.items) got_now
+          ∙ ap (λ rs. rs ++ replies_in h.items) (replies_in-append (got_at i p before) (reply ∷ []))
+          ∙ append_assoc (replies_in (got_at i p before)) (reply.reply ∷ []) (replies_in h.items),
+    )
 
 -- ---- each event
 
@@ -307,8 +315,10 @@ each_follows s es of_chain rules steps n (Sent i k port call) here = rules.seats
 each_follows s es of_chain rules steps n (Brought i k message) here = tt
 each_follows s es of_chain rules steps n (Taken i envelope) here =
     let within = of_each s es n (Taken i envelope) of_chain here in
-    λ going. (steps n (Taken i envelope) here going,
-        next_any s es of_chain rules n i envelope here within going envelope.inbox_message refl)
+    λ going. (
+      steps n (Taken i envelope) here going,
+      next_any s es of_chain rules n i envelope here within going envelope.inbox_message refl,
+    )
 each_follows s es of_chain rules steps n (Shown i input) here = steps n (Shown i input) here
 each_follows s es of_chain rules steps n (Put i j peer) here = steps n (Put i j peer) here
 each_follows s es of_chain rules steps n (Answered i reply) here = steps n (Answered i reply) here

@@ -1,5 +1,5 @@
 -- A look at what stands.
-use Rattle.std.proofs.Common.{◌≡◌, ◌≢◌, ℕ, ◌<◌, Bool, true, false, cond, List, [], ◌∷◌, ◌++◌, Option, refl, ap, sym, ◌∙◌}
+use Rattle.std.proofs.Common.{◌≡◌, ℕ, ◌<◌, Bool, true, false, cond, List, [], ◌∷◌, ◌++◌, Option, refl, ap, sym, ◌∙◌}
 use Rattle.std.proofs.Common.{subst}
 use Rattle.std.specs.Prelude.{◌==◌, ◌&&◌, not, nat_lt}
 use Rattle.std.proofs.lemmas.Bool.{and_from, and_parts}
@@ -39,7 +39,9 @@ module _ (s : OpenedChain) (es : List Event) (i q : ℕ) (key : List ℕ) (stood
   shown = look_at (shown_after stood) key
 
   -- of a clean key it is a call with its reply
-  clean : (item : Option Item) → shown ≡ Clean item → StandsForChain s (es ++ e ∷ []) (looked l c (l.seats c) key (Clean item))
+  clean : (item : Option Item)
+      → shown ≡ Clean item
+      → StandsForChain s (es ++ e ∷ []) (looked l c (l.seats c) key (Clean item))
   clean item is =
       let t = l.seats c in
       let here : StandsForSeat i q es t = seat_here s es i q within below l h in

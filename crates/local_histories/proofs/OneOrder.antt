@@ -1,5 +1,5 @@
 -- The order of the calls of a run of events is that of its moves.
-use Rattle.std.proofs.Common.{◌≡◌, ℕ, ◌+◌, ◌<◌, ◌≤◌, Bool, List, [], ◌∷◌, ◌++◌, length, take, drop, Some, refl, ap, sym}
+use Rattle.std.proofs.Common.{◌≡◌, ℕ, ◌+◌, ◌<◌, ◌≤◌, List, [], length, take, drop, Some, ap, sym}
 use Rattle.std.proofs.Common.{◌∙◌, subst, arith, length-append}
 use Rattle.std.specs.Prelude.{slice_get, nat_lt, IsSome}
 use Rattle.std.proofs.lemmas.List.{take_all, take-append-drop}
@@ -19,7 +19,8 @@ use Rattle.interleavings.proofs.relation.Published.{same_less}
 use Rattle.interleavings.proofs.relation.Transfer.{take_front}
 use Rattle.local_histories.specs.Events.{Event}
 use Rattle.local_histories.specs.Objects.{OpenedChain, sent_from, shown_by}
-use Rattle.local_histories.specs.Standing.{begun_at, given_to, StandsForChain, all_moves_after, all_moves, home_of, port_of}
+use Rattle.local_histories.specs.Standing.{begun_at, given_to, StandsForChain, all_moves_after, all_moves, home_of}
+use Rattle.local_histories.specs.Standing.{port_of}
 use Rattle.local_histories.specs.CallOrders.{begun_call, reply_to, is_shown, Precedes, ShownBefore, IsOrderOf, IsInTurn}
 use Rattle.local_histories.specs.Following.{AreRun}
 use Rattle.local_histories.proofs.Runs.{moves_in_two}

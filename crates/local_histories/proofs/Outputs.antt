@@ -1,5 +1,5 @@
 -- What steps put out: the face is shown, messages are put, replies are put.
-use Rattle.std.proofs.Common.{◌≡◌, ◌≢◌, ℕ, ◌<◌, Bool, true, false, cond, List, [], ◌∷◌, ◌++◌, Option, None, Some, refl, ap}
+use Rattle.std.proofs.Common.{◌≡◌, ℕ, ◌<◌, Bool, true, false, cond, List, [], ◌∷◌, ◌++◌, Option, None, Some, refl, ap}
 use Rattle.std.proofs.Common.{sym, ◌∙◌, subst, inl, inr, append_assoc, eq-eqb}
 use Rattle.std.specs.Prelude.{◌==◌, ◌&&◌, not}
 use Rattle.std.proofs.lemmas.Bool.{cases_eq, ne_eqb, and_from}
@@ -13,7 +13,7 @@ use Rattle.node.specs.Servers.{ServerState}
 use Rattle.node.specs.Steps.{step}
 use Rattle.rail.specs.Links as links
 use Rattle.rail.specs.NotedReplies.{NotedReply}
-use Rattle.interleavings.specs.Chains.{RunningServer, Seat, Chain, with_at, with_running, with_seat, listed, calls_from}
+use Rattle.interleavings.specs.Chains.{RunningServer, Seat, with_at, with_running, listed, calls_from}
 use Rattle.interleavings.specs.Chains.{messages_to, without_message, replies_to, without_reply}
 use Rattle.interleavings.specs.Moves.{published, put}
 use Rattle.interleavings.specs.OwnPorts.{seats_at, port_at, reply_put_from}
@@ -30,7 +30,7 @@ use Rattle.local_histories.specs.Following.{GoesOnWith, outputs_of, Leads}
 use Rattle.local_histories.proofs.Gathering.{gathered_more, gathered_same, given_same, halted_same}
 use Rattle.local_histories.proofs.Keeping.{quiet_at, elsewhere, one_server, one_seat, seat_kept, channels_kept}
 use Rattle.local_histories.proofs.SeatPlaces.{not_there, seat_has}
-use Rattle.local_histories.proofs.SeatEvents.{replies_in-append, seat_here, seat_back, both_same}
+use Rattle.local_histories.proofs.SeatEvents.{replies_in-append, seat_here, seat_back}
 
 -- ---- runs of a server with one input more
 

@@ -1,7 +1,7 @@
 -- Events each of which may follow those before it are a run of moves.
-use Rattle.std.proofs.Common.{◌≡◌, ℕ, zero, suc, ◌<◌, Bool, true, false, cond, List, [], ◌∷◌, ◌++◌, take, Some}
+use Rattle.std.proofs.Common.{◌≡◌, ℕ, zero, suc, Bool, true, false, cond, List, [], ◌∷◌, ◌++◌, take, Some}
 use Rattle.std.proofs.Common.{◌⊎◌, inl, inr, refl, ap, sym, ◌∙◌, subst, append_assoc, arith}
-use Rattle.std.specs.Prelude.{slice_get, not, nat_lt}
+use Rattle.std.specs.Prelude.{slice_get, not}
 use Rattle.std.proofs.lemmas.Bool.{lt-ltb}
 use Rattle.std.proofs.lemmas.List.{append-nil}
 use Rattle.std.proofs.lemmas.Option.{same_Some}
@@ -11,8 +11,7 @@ use Rattle.rail.specs.declared.inbox_messages.InboxMessage.{InboxMessage}
 use Rattle.rail.specs.declared.inbox_messages.InboxMessage.TheVariants.{Took, Stop, End}
 use Rattle.interleavings.specs.Asked.{AreAsked}
 use Rattle.interleavings.specs.Chains.{Chain, opening_chain}
-use Rattle.interleavings.specs.Moves.{Move}
-use Rattle.interleavings.specs.OtherMoves.{moved_by, moved_from_by}
+use Rattle.interleavings.specs.OtherMoves.{moved_by}
 use Rattle.interleavings.specs.OwnPorts.{with_own_ports}
 use Rattle.interleavings.proofs.examples.InTwoParts.{moved_from_by-append}
 use Rattle.interleavings.proofs.served.Along.{both_asked}
@@ -184,8 +183,10 @@ module _ (s : OpenedChain) (es : List Event) (opened : IsOpened s) (of : AreOf s
     where
       by : Next es n → IsPrefix (all_moves s (take n es)) (all_moves s (take (suc n) es))
       by (inl same) = ([], append-nil (all_moves s (take n es)) ∙ ap (all_moves s) (sym same))
-      by (inr more) = (moves_of s (take n es) more.0,
-          sym (moves_more s [] (take n es) more.0) ∙ ap (all_moves s) (sym more.2))
+      by (inr more) = (
+        moves_of s (take n es) more.0,
+        sym (moves_more s [] (take n es) more.0) ∙ ap (all_moves s) (sym more.2),
+      )
 
   pub are_run : AreRun s es
   are_run = record { stands = all_stand; asked = all_asked; further = all_further }

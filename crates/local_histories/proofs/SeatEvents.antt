@@ -1,5 +1,5 @@
 -- A call is sent, and a reply is taken.
-use Rattle.std.proofs.Common.{◌≡◌, ◌≢◌, ℕ, suc, ◌+◌, ◌<◌, Bool, true, false, cond, List, [], ◌∷◌, ◌++◌, length, refl}
+use Rattle.std.proofs.Common.{◌≡◌, ℕ, ◌+◌, ◌<◌, Bool, true, false, cond, List, [], ◌∷◌, ◌++◌, length, refl}
 use Rattle.std.proofs.Common.{arith, ap, sym, ◌∙◌, subst, append_assoc, eq-eqb, length-append}
 use Rattle.std.specs.Prelude.{◌==◌, ◌&&◌}
 use Rattle.std.proofs.lemmas.Bool.{and_from}
@@ -16,13 +16,15 @@ use Rattle.node.specs.Runs.{after, put_out}
 use Rattle.faces.specs.Histories.{shown_after}
 use Rattle.rail.specs.Links as links
 use Rattle.rail.specs.NotedReplies.{NotedReply}
-use Rattle.interleavings.specs.Chains.{RunningServer, Seat, Chain, with_seat, listed, calls_from, messages_to, replies_to}
+use Rattle.interleavings.specs.Chains.{RunningServer, Seat, Chain, with_seat, listed, calls_from, messages_to}
+use Rattle.interleavings.specs.Chains.{replies_to}
 use Rattle.interleavings.specs.Moves.{is_free, brought, received}
 use Rattle.interleavings.specs.OwnPorts.{seats_at, port_at}
 use Rattle.interleavings.proofs.lists.Joined.{calls_from-append}
 use Rattle.local_histories.specs.Events.{Event, Sent, Brought, Taken, Shown, Put, Answered, HandedBack, Got, Looked}
 use Rattle.local_histories.specs.Events.{Halted, Broke}
-use Rattle.local_histories.specs.Objects.{OpenedChain, only_if, sends_from, sent_from, shows, puts, answers, answered_at}
+use Rattle.local_histories.specs.Objects.{OpenedChain, only_if, sends_from, sent_from, shows, puts, answers}
+use Rattle.local_histories.specs.Objects.{answered_at}
 use Rattle.local_histories.specs.Objects.{gets, got_at}
 use Rattle.local_histories.specs.LocalRules.{HasAllReplies}
 use Rattle.local_histories.specs.Standing.{read_by, read_reply, begins, begun_at, ends, ended_at, replies_in, given_to}
@@ -30,7 +32,8 @@ use Rattle.local_histories.specs.Standing.{AreCalls, StandsForServer, StandsForS
 use Rattle.local_histories.specs.Standing.{seat_in}
 use Rattle.local_histories.specs.Following.{GoesOnWith, Leads}
 use Rattle.local_histories.proofs.Gathering.{gathered_more, gathered_same, given_same, halted_same}
-use Rattle.local_histories.proofs.Keeping.{quiet, quiet_at, elsewhere, one_server, one_seat, servers_kept, channels_kept}
+use Rattle.local_histories.proofs.Keeping.{quiet, quiet_at, elsewhere, one_server, one_seat, servers_kept}
+use Rattle.local_histories.proofs.Keeping.{channels_kept}
 use Rattle.local_histories.proofs.SeatPlaces.{home_there, port_there, not_there, seat_has}
 
 -- ---- lists

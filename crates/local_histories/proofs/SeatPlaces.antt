@@ -1,5 +1,5 @@
 -- Where the seat of a port stands.
-use Rattle.std.proofs.Common.{◌≡◌, ◌≢◌, ℕ, zero, suc, ◌<◌, Bool, true, false, cond, List, [], ◌∷◌, Some, refl, arith, ap}
+use Rattle.std.proofs.Common.{◌≡◌, ◌≢◌, ℕ, zero, suc, ◌<◌, true, false, cond, List, [], ◌∷◌, Some, refl, arith, ap}
 use Rattle.std.proofs.Common.{sym, ◌∙◌, subst, inl, inr, eq-eqb}
 use Rattle.std.specs.Prelude.{◌==◌, ◌&&◌, slice_get, slice_index_or}
 use Rattle.std.proofs.lemmas.Bool.{cases_eq, ne_eqb, and_left, and_right}

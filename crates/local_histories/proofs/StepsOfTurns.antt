@@ -1,5 +1,5 @@
 -- Workers whose events are turns take one step after another.
-use Rattle.std.proofs.Common.{◌≡◌, ℕ, zero, suc, ◌+◌, ◌<◌, ◌≤◌, Bool, true, false, cond, List, [], ◌∷◌, ◌++◌, length, take}
+use Rattle.std.proofs.Common.{◌≡◌, ℕ, zero, suc, ◌<◌, ◌≤◌, Bool, true, false, cond, List, [], ◌∷◌, ◌++◌, length, take}
 use Rattle.std.proofs.Common.{Some, refl, arith, ap, sym, ◌∙◌, subst, eq-eqb, length-append}
 use Rattle.std.specs.Prelude.{◌==◌, ◌&&◌, ◌||◌, slice_get}
 use Rattle.std.proofs.lemmas.Option.{same_Some}
@@ -9,12 +9,13 @@ use Rattle.rail.specs.NotedReplies.{NotedReply}
 use Rattle.interleavings.specs.Chains.{messages_to, replies_to}
 use Rattle.local_histories.specs.Events.{Event, Sent, Brought, Taken, Shown, Put, Answered, HandedBack, Got, Looked}
 use Rattle.local_histories.specs.Events.{Halted, Broke, is_of_worker}
-use Rattle.local_histories.specs.Objects.{OpenedChain, gathered, only_if, inputs_in, shows, shown_by, is_halt, has_halted}
+use Rattle.local_histories.specs.Objects.{OpenedChain, gathered, only_if, inputs_in, shows, shown_by, is_halt}
+use Rattle.local_histories.specs.Objects.{has_halted}
 use Rattle.local_histories.specs.Objects.{answers, answered_at, puts, put_by}
-use Rattle.local_histories.specs.LocalRules.{IsOpened, IsOf, AreOf, AllBy, KeepRules, AreLocallyRight}
+use Rattle.local_histories.specs.LocalRules.{IsOpened, AreOf, AllBy, AreLocallyRight}
 use Rattle.local_histories.specs.Standing.{replies_in, before_halt, takes_input, given_to}
-use Rattle.local_histories.specs.Turns.{of_worker, HasTurns}
-use Rattle.local_histories.specs.Following.{GoesOnWith, outputs_of, IsWorkerStep}
+use Rattle.local_histories.specs.Turns.{of_worker}
+use Rattle.local_histories.specs.Following.{outputs_of, IsWorkerStep}
 use Rattle.local_histories.proofs.BetweenTurns.{in_all}
 use Rattle.local_histories.proofs.Counting.{replies_few}
 use Rattle.local_histories.proofs.Parts.{Sub, sub_whole}
@@ -118,6 +119,7 @@ own_given i (e ∷ es) = by (is_of_worker i e) refl (own_given i es)
         ≡ gathered (takes_input i) (cond c [] (e ∷ before_halt i es))
     stops true f = refl
     stops false f = ap (λ xs. takes_input i e ++ xs) f
+
     by : (b : Bool) → is_of_worker i e ≡ b → given_to i (of_worker i es) ≡ given_to i es
         → given_to i (cond b (e ∷ of_worker i es) (of_worker i es))
         ≡ gathered (takes_input i) (cond (is_halt i e) [] (e ∷ before_halt i es))
@@ -133,9 +135,11 @@ own_split : (i : ℕ) (es : List Event) (n : ℕ) (e : Event)
     → (more : List Event) × (of_worker i es ≡ of_worker i (take n es) ++ e ∷ more)
 own_split i [] n e here own = absurd cc
 own_split i (x ∷ xs) zero e here own =
-    let same : x ≡ e = same_Some x e here in
-    (of_worker i xs, ap (λ b. cond b (x ∷ of_worker i xs) (of_worker i xs)) (ap (is_of_worker i) same ∙ own)
-    ∙ ap (λ y. y ∷ of_worker i xs) same)
+    let same : x ≡ e = same_Some x e here in (
+      of_worker i xs,
+      ap (λ b. cond b (x ∷ of_worker i xs) (of_worker i xs)) (ap (is_of_worker i) same ∙ own)
+          ∙ ap (λ y. y ∷ of_worker i xs) same,
+    )
 own_split i (x ∷ xs) (suc n) e here own = by (is_of_worker i x) (own_split i xs n e here own)
   where
     by : (b : Bool)
@@ -182,15 +186,20 @@ module _ (s : OpenedChain) (es : List Event) (few : s.count ≤ 16) (opened : Is
       λ going. sym (own_given i (take n es)) ∙ step (own_halted i (take n es) ∙ going) ∙ shown_same n i
   each_steps n (Shown i input) here =
       let within = (of_each s es n (Shown i input) of here).0 in
-      let step = own_step n i (Shown i input) here within (eq-eqb i i refl) in
-      (sym (own_halted i (take n es)) ∙ step.0,
-      sym (own_given i (take n es)) ∙ step.1 ∙ ap (λ xs. xs ++ input ∷ []) (shown_same n i))
+      let step = own_step n i (Shown i input) here within (eq-eqb i i refl) in (
+        sym (own_halted i (take n es)) ∙ step.0,
+        sym (own_given i (take n es)) ∙ step.1 ∙ ap (λ xs. xs ++ input ∷ []) (shown_same n i),
+      )
   each_steps n (Put i j peer) here =
       let within = of_each s es n (Put i j peer) of here in
-      let step = own_step n i (Put i j peer) here within (eq-eqb i i refl) in
-      (sym (own_halted i (take n es)) ∙ step.0,
-      (step.1.0, ap (messages_to j) (sym (outputs_same n i)) ∙ step.1.1
-      ∙ ap (λ ms. links.messages_to j ms ++ peer ∷ step.1.0) (put_same n i)))
+      let step = own_step n i (Put i j peer) here within (eq-eqb i i refl) in (
+        sym (own_halted i (take n es)) ∙ step.0,
+        (
+          step.1.0,
+          ap (messages_to j) (sym (outputs_same n i)) ∙ step.1.1
+              ∙ ap (λ ms. links.messages_to j ms ++ peer ∷ step.1.0) (put_same n i),
+        ),
+      )
   each_steps n (Answered i reply) here =
       let bounds = of_each s es n (Answered i reply) of here in
       let p = reply.port in
@@ -203,10 +212,14 @@ module _ (s : OpenedChain) (es : List Event) (few : s.count ≤ 16) (opened : Is
       (answered_same n i p) (step.2 bounds.1)) in
       let many = replies_few s es of right.rules i p bounds.0 opened few bounds.1 n all in
       let sum = length-append (replies_in (answered_at i p fs)) (reply.reply ∷ []) in
-      let noted = noted_many (answered_at i p fs) in
-      (sym (own_halted i fs) ∙ step.0,
-      ([], sub_whole (replies_to p (outputs_of s i fs)) (replies_in (answered_at i p fs) ++ reply.reply ∷ []) some
-      (omega (arith, many, sum, noted))))
+      let noted = noted_many (answered_at i p fs) in (
+        sym (own_halted i fs) ∙ step.0,
+        (
+          [],
+          sub_whole (replies_to p (outputs_of s i fs)) (replies_in (answered_at i p fs) ++ reply.reply ∷ []) some
+              (omega (arith, many, sum, noted)),
+        ),
+      )
   each_steps n (Sent i k port call) here = tt
   each_steps n (Brought i k message) here = tt
   each_steps n (HandedBack i port) here = tt

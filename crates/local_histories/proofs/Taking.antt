@@ -1,7 +1,7 @@
 -- A worker takes what comes next; one that has stopped drains its inbox.
-use Rattle.std.proofs.Common.{◌≡◌, ◌≢◌, ℕ, ◌<◌, Bool, true, false, cond, List, [], ◌∷◌, ◌++◌, Option, None, Some, refl, ap}
+use Rattle.std.proofs.Common.{◌≡◌, ℕ, ◌<◌, Bool, true, false, cond, List, [], ◌∷◌, ◌++◌, Option, None, Some, refl, ap}
 use Rattle.std.proofs.Common.{sym, ◌∙◌, subst, inl, inr, append_assoc, eq-eqb}
-use Rattle.std.specs.Prelude.{◌==◌, ◌&&◌, not, nat_lt, is_some}
+use Rattle.std.specs.Prelude.{◌==◌, ◌&&◌, nat_lt, is_some}
 use Rattle.std.proofs.lemmas.Bool.{cases_eq, ne_eqb, and_from, eqb-true, lt-ltb}
 use Rattle.std.proofs.lemmas.List.{append_cancel_left, append-nil}
 use Rattle.table.specs.declared.operations.Call.{Call}
@@ -24,12 +24,12 @@ use Rattle.interleavings.proofs.lists.FirstOf.{calls_picked}
 use Rattle.interleavings.proofs.lists.Joined.{calls_from-append}
 use Rattle.local_histories.specs.Events.{Event, Taken}
 use Rattle.local_histories.specs.Objects.{OpenedChain, only_if, sends_from, sent_from, all_messages_from, message_from}
-use Rattle.local_histories.specs.Objects.{inputs_in, shows, shown_by, has_halted, answers, answered_at, puts, put_by}
-use Rattle.local_histories.specs.Standing.{replies_in, takes_input, given_to, AreCalls, StandsForServer, StandsForChain}
+use Rattle.local_histories.specs.Objects.{inputs_in, shows, shown_by, has_halted, answers, puts, put_by}
+use Rattle.local_histories.specs.Standing.{replies_in, given_to, AreCalls, StandsForServer, StandsForChain}
 use Rattle.local_histories.specs.Standing.{home_of, port_of, moves_of_taking}
 use Rattle.local_histories.specs.Following.{GoesOnWith, IsNextMessage, Leads}
 use Rattle.local_histories.proofs.Gathering.{gathered_same, given_more, given_same, given_no_more, halted_same}
-use Rattle.local_histories.proofs.Keeping.{KeepsServer, quiet, quiet_at, elsewhere, all_kept, one_server, seat_kept}
+use Rattle.local_histories.proofs.Keeping.{KeepsServer, quiet_at, elsewhere, all_kept, one_server, seat_kept}
 
 -- ---- lists
 
@@ -107,13 +107,13 @@ module _ (s : OpenedChain) (es : List Event) (i : ℕ) (envelope : Envelope) whe
   passes same l h = all_kept s es e l h
       (λ k. elim (cases_eq i k) [
         | inl here ↦ subst (λ x. KeepsServer x es e) here (record {
-            sent = λ p. gathered_same (sends_from i p) es e refl;
-            given = same;
-            shown = gathered_same (shows i) es e refl;
-            put = gathered_same (puts i) es e refl;
-            answered = λ p. gathered_same (answers i p) es e refl;
-            halted = halted_same i es e refl;
-          })
+          sent = λ p. gathered_same (sends_from i p) es e refl;
+          given = same;
+          shown = gathered_same (shows i) es e refl;
+          put = gathered_same (puts i) es e refl;
+          answered = λ p. gathered_same (answers i p) es e refl;
+          halted = halted_same i es e refl;
+        })
         | inr other ↦ elsewhere k es e other
       ])
       (λ j p. quiet_at j p es e refl refl refl refl)

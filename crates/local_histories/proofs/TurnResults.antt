@@ -1,12 +1,12 @@
 -- What the contract of a turn says of one in which a face is shown.
-use Rattle.std.proofs.Common.{◌≡◌, ℕ, zero, suc, ◌+◌, ◌<◌, ◌≤◌, Bool, true, false, cond, List, [], ◌∷◌, ◌++◌, length, refl}
-use Rattle.std.proofs.Common.{arith, ap, sym, ◌∙◌, subst, inl, inr, ◌⊎◌, append_assoc, eq-eqb, length-append}
+use Rattle.std.proofs.Common.{◌≡◌, ℕ, zero, suc, ◌+◌, ◌<◌, ◌≤◌, Bool, true, false, cond, List, [], ◌∷◌, ◌++◌, length}
+use Rattle.std.proofs.Common.{refl}
+use Rattle.std.proofs.Common.{arith, ap, sym, ◌∙◌, subst, inl, inr, append_assoc, length-append}
 use Rattle.std.specs.Prelude.{◌==◌, not}
 use Rattle.std.specs.declared.result.Result.{Result}
 use Rattle.std.specs.declared.result.Result.TheVariants.{Ok, Err}
-use Rattle.std.proofs.lemmas.Bool.{cases_eq, cases_Bool, both_ways, not-true, not-false}
-use Rattle.std.proofs.lemmas.List.{append_cancel_left, append-nil}
-use Rattle.table.specs.declared.operations.Reply.{Reply}
+use Rattle.std.proofs.lemmas.Bool.{cases_eq, both_ways}
+use Rattle.std.proofs.lemmas.List.{append_cancel_left}
 use Rattle.node.specs.declared.messages.Input.{Input}
 use Rattle.node.specs.declared.messages.Output.{Output}
 use Rattle.node.specs.declared.messages.Output.TheVariants.{To, Reply as Replied}
@@ -24,13 +24,13 @@ use Rattle.rail.specs.declared.workers.Turn.{Turn}
 use Rattle.rail.specs.declared.workers.Turn.TheVariants.{Went, Stopped, End as Ended}
 use Rattle.rail.specs.Links as links
 use Rattle.rail.specs.NotedReplies.{NotedReply}
-use Rattle.rail.specs.Turns.{messages_of, noted_replies_to, outputs_after, HasPut, HasReplied}
+use Rattle.rail.specs.Turns.{messages_of, noted_replies_to, outputs_after, HasReplied}
 use Rattle.rail.specs.Workers.{IsTurn}
 use Rattle.interleavings.specs.Chains.{messages_to, replies_to}
 use Rattle.interleavings.proofs.lists.Joined.{messages_to-append}
-use Rattle.local_histories.specs.Events.{Event, Taken, Shown}
-use Rattle.local_histories.specs.Objects.{OpenedChain, only_if, takes, taken_by, shows, shown_by, has_halted, answered_at}
-use Rattle.local_histories.specs.Objects.{published_by, reply_senders_after, worker_after, puts, put_by, failures_by}
+use Rattle.local_histories.specs.Events.{Event}
+use Rattle.local_histories.specs.Objects.{OpenedChain, takes, taken_by, shows, shown_by, has_halted, answered_at}
+use Rattle.local_histories.specs.Objects.{published_by, reply_senders_after, worker_after, put_by, failures_by}
 use Rattle.local_histories.specs.Objects.{links_after, gathered}
 use Rattle.local_histories.specs.Standing.{replies_in}
 use Rattle.local_histories.proofs.Parts.{Sub, sub_left, sub_nil, sub_replies, gathered-append}
@@ -77,9 +77,12 @@ replied_at : (s : OpenedChain) (i : ℕ) (es fs : List Event) (c : History) (os 
 replied_at s i es fs c os k zero p h low high = absurd (omega (arith, low, high))
 replied_at s i es fs c os k (suc n) p h low high = elim (cases_eq k p) [
   | inl same ↦ subst (λ q. (more : List NotedReply) × (answered_at i q fs ≡ answered_at i q es ++ more)
-      × Sub (replies_to q os) (replies_in more)) same
-      (h.0.more, h.0.put, subst (λ rs. Sub rs (replies_in h.0.more)) (replies_are c k os)
-      (sub_replies (noted_replies_to c k os) h.0.more (sub_left _ (noted_replies_to c k os) h.0.more h.0.left)))
+      × Sub (replies_to q os) (replies_in more)) same (
+        h.0.more,
+        h.0.put,
+        subst (λ rs. Sub rs (replies_in h.0.more)) (replies_are c k os)
+            (sub_replies (noted_replies_to c k os) h.0.more (sub_left _ (noted_replies_to c k os) h.0.more h.0.left)),
+      )
   | inr other ↦ replied_at s i es fs c os (k + 1) n p h.1 (omega (arith, low, other)) (omega (arith, high))
 ]
 
@@ -161,7 +164,9 @@ module _ (s : OpenedChain) (i : ℕ) (done turn : List Event) (envelope : Envelo
       let same = same_input x gone.published in
       let out = outputs_are x same in
       let first : (j : ℕ) → links.messages_to j (messages_of (outputs_after (with_next (published_by s i done) x)))
-      ≡ messages_to j outs = λ (j : ℕ). messages_are j (outputs_after (with_next (published_by s i done) x)) ∙ ap (messages_to j) out in
+      ≡ messages_to j outs =
+      λ (j : ℕ).
+      messages_are j (outputs_after (with_next (published_by s i done) x)) ∙ ap (messages_to j) out in
       record {
         going = goes_then (has_halted i done) gone.going;
         took = ap (λ (m : Envelope). m.inbox_message) (sym (same_message h.message h.taken)) ∙ h.did.1
@@ -196,10 +201,12 @@ module _ (s : OpenedChain) (i : ℕ) (done turn : List Event) (envelope : Envelo
                   ∙ ap (λ y. Took y) same;
               put = put.put;
               list = put.list;
-              front = λ j. ((put.beginning j).0 ++ messages_to j parts.1,
-                  ap (messages_to j) split ∙ messages_to-append j parts.0 parts.1
-                  ∙ ap (λ ms. ms ++ messages_to j parts.1) (sym (messages_are j parts.0) ∙ (put.beginning j).1)
-                  ∙ append_assoc (links.messages_to j put.put) (put.beginning j).0 (messages_to j parts.1));
+              front = λ j. (
+                (put.beginning j).0 ++ messages_to j parts.1,
+                ap (messages_to j) split ∙ messages_to-append j parts.0 parts.1
+                    ∙ ap (λ ms. ms ++ messages_to j parts.1) (sym (messages_are j parts.0) ∙ (put.beginning j).1)
+                    ∙ append_assoc (links.messages_to j put.put) (put.beginning j).0 (messages_to j parts.1),
+              );
               down = put.down;
               whole = λ on j up. absurd (both_ways (has_halted i (done ++ turn)) on
                   (halts_then (has_halted i (done ++ turn)) cut.stopped));

@@ -1,41 +1,29 @@
 -- Turns are steps: at each event of a worker, by those of its events before it.
-use Rattle.std.proofs.Common.{◌≡◌, ℕ, zero, suc, ◌+◌, ◌<◌, ◌≤◌, Bool, true, false, cond, List, [], ◌∷◌, ◌++◌, length, refl}
+use Rattle.std.proofs.Common.{◌≡◌, ℕ, zero, suc, ◌<◌, Bool, true, false, cond, List, [], ◌∷◌, ◌++◌, length, refl}
 use Rattle.std.proofs.Common.{arith, ap, sym, ◌∙◌, subst, inl, inr, ◌⊎◌, append_assoc, eq-eqb, length-append}
-use Rattle.std.specs.Prelude.{◌==◌, ◌||◌, not}
-use Rattle.std.specs.declared.result.Result.{Result}
-use Rattle.std.specs.declared.result.Result.TheVariants.{Ok, Err}
-use Rattle.std.proofs.lemmas.Bool.{cases_Bool, both_ways, eqb-true, and_from, or_parts, or_left, or_right, or_from}
+use Rattle.std.specs.Prelude.{◌==◌}
+use Rattle.std.proofs.lemmas.Bool.{eqb-true, and_from, or_parts, or_from}
 use Rattle.std.proofs.lemmas.List.{append_cancel_left, append-nil}
-use Rattle.table.specs.declared.operations.Reply.{Reply}
 use Rattle.node.specs.declared.messages.Input.{Input}
 use Rattle.node.specs.declared.messages.Output.{Output}
 use Rattle.node.specs.declared.messages.Peer.{Peer}
-use Rattle.node.specs.Runs.{after, put_out}
-use Rattle.node.specs.Steps.{step}
-use Rattle.faces.specs.Histories.{History}
-use Rattle.rail.specs.declared.faults.RailFault.{RailFault}
-use Rattle.rail.specs.declared.faults.RailFault.TheVariants.{Memory, Closed, LinkDown, NoReader}
+use Rattle.node.specs.Runs.{put_out}
 use Rattle.rail.specs.declared.inbox_messages.Envelope.{Envelope}
-use Rattle.rail.specs.declared.inbox_messages.InboxMessage.TheVariants.{Took, Stop, End}
-use Rattle.rail.specs.declared.workers.Turn.{Turn}
-use Rattle.rail.specs.declared.workers.Turn.TheVariants.{Went, Stopped, End as Ended}
 use Rattle.rail.specs.Links as links
 use Rattle.rail.specs.NotedReplies.{NotedReply}
-use Rattle.rail.specs.Workers.{IsTurn}
 use Rattle.interleavings.specs.Chains.{messages_to, replies_to}
 use Rattle.interleavings.proofs.lists.Joined.{messages_to-append, replies_to-append}
 use Rattle.local_histories.specs.Events.{Event, Sent, Brought, Taken, Shown, Put, Answered, HandedBack, Got, Looked}
 use Rattle.local_histories.specs.Events.{Halted, Broke, is_of_worker}
-use Rattle.local_histories.specs.Objects.{OpenedChain, gathered, only_if, inputs_in, takes, taken_by, shows, shown_by}
-use Rattle.local_histories.specs.Objects.{is_halt, has_halted, answers, answered_at, published_by, worker_after}
-use Rattle.local_histories.specs.Objects.{links_after, puts, put_by, breaks, failures_by}
+use Rattle.local_histories.specs.Objects.{OpenedChain, gathered, only_if, inputs_in, takes, shows, shown_by}
+use Rattle.local_histories.specs.Objects.{is_halt, has_halted, answers, answered_at}
+use Rattle.local_histories.specs.Objects.{puts, put_by, failures_by}
 use Rattle.local_histories.specs.Standing.{replies_in, takes_input, given_to}
-use Rattle.local_histories.specs.Turns.{AreOutputs, FollowTaking, AreInOrder, AreOwn, IsTurnAfter, IsBreak, AreTurns}
-use Rattle.local_histories.specs.Turns.{joined, IsBegunAfter, MayEnd}
-use Rattle.local_histories.specs.Following.{GoesOnWith, outputs_of, IsWorkerStep}
-use Rattle.local_histories.proofs.Gathering.{gathered_more, gathered_same, given_more, given_same, halted_same}
-use Rattle.local_histories.proofs.Outputs.{put_out_more, linked_more}
-use Rattle.local_histories.proofs.Parts.{Sub, sub_nil, sub_both, sub_front, in_either, gathered-append, halted-append}
+use Rattle.local_histories.specs.Turns.{AreOutputs, AreOwn, IsTurnAfter}
+use Rattle.local_histories.specs.Following.{outputs_of, IsWorkerStep}
+use Rattle.local_histories.proofs.Gathering.{gathered_same, given_more, halted_same}
+use Rattle.local_histories.proofs.Outputs.{put_out_more}
+use Rattle.local_histories.proofs.Parts.{Sub, sub_both, sub_front, gathered-append, halted-append}
 use Rattle.local_histories.proofs.SeatEvents.{replies_in-append}
 use Rattle.local_histories.proofs.TurnResults.{Advances, advances, outs}
 
@@ -89,13 +77,17 @@ front_quiet : (i : ℕ) (es : List Event) (e : Event) (more : List Event)
     → IsQuiet i es
 front_quiet i [] e more h = record { shows_none = refl; takes_none = refl; goes = refl }
 front_quiet i (Put g j peer ∷ es) e more h =
-    (let r = front_quiet i es e more h in record { shows_none = r.shows_none; takes_none = r.takes_none; goes = r.goes })
+    let r = front_quiet i es e more h in
+    record { shows_none = r.shows_none; takes_none = r.takes_none; goes = r.goes }
 front_quiet i (Broke g j ∷ es) e more h =
-    (let r = front_quiet i es e more h in record { shows_none = r.shows_none; takes_none = r.takes_none; goes = r.goes })
+    let r = front_quiet i es e more h in
+    record { shows_none = r.shows_none; takes_none = r.takes_none; goes = r.goes }
 front_quiet i (Answered g reply ∷ es) e more h =
-    (let r = front_quiet i es e more h in record { shows_none = r.shows_none; takes_none = r.takes_none; goes = r.goes })
+    let r = front_quiet i es e more h in
+    record { shows_none = r.shows_none; takes_none = r.takes_none; goes = r.goes }
 front_quiet i (HandedBack g port ∷ es) e more h =
-    (let r = front_quiet i es e more h in record { shows_none = r.shows_none; takes_none = r.takes_none; goes = r.goes })
+    let r = front_quiet i es e more h in
+    record { shows_none = r.shows_none; takes_none = r.takes_none; goes = r.goes }
 front_quiet i (Halted g ∷ []) e more h = absurd (let no : e ∷ more ≡ [] = h in cc)
 front_quiet i (Halted g ∷ (f ∷ es)) e more h = absurd (let no : f ∷ (es ++ e ∷ more) ≡ [] = h in cc)
 front_quiet i (Sent g k port call ∷ es) e more h = absurd h
@@ -149,12 +141,14 @@ module _ (s : OpenedChain) (i : ℕ) (done : List Event) (h : Between s i done) 
   -- the input is shown
   shown_step : IsWorkerStep s (done ++ Taken i envelope ∷ []) (Shown i input)
   shown_step =
-      let going = halted_same i done (Taken i envelope) refl ∙ adv.going in
-      (going,
-      given_more i done (Taken i envelope) adv.going refl
-      ∙ ap (λ b. given_to i done ++ cond b (inputs_in envelope.inbox_message) []) (eq-eqb i i refl)
-      ∙ ap (λ m. given_to i done ++ inputs_in m) adv.took
-      ∙ ap (λ xs. xs ++ input ∷ []) (h.shown adv.going ∙ sym (gathered_same (shows i) done (Taken i envelope) refl)))
+      let going = halted_same i done (Taken i envelope) refl ∙ adv.going in (
+        going,
+        given_more i done (Taken i envelope) adv.going refl
+            ∙ ap (λ b. given_to i done ++ cond b (inputs_in envelope.inbox_message) []) (eq-eqb i i refl)
+            ∙ ap (λ m. given_to i done ++ inputs_in m) adv.took
+            ∙ ap (λ xs. xs ++ input ∷ [])
+            (h.shown adv.going ∙ sym (gathered_same (shows i) done (Taken i envelope) refl)),
+      )
 
   -- after the face is shown, and some outputs
   module _ (a : List Event) (e : Event) (b : List Event) (is : os ≡ a ++ e ∷ b) where
@@ -193,15 +187,15 @@ module _ (s : OpenedChain) (i : ℕ) (done : List Event) (h : Between s i done) 
         × (gathered adds (done ++ t)
         ≡ gathered adds done ++ (gathered adds a ++ (adds e ++ gathered adds b)))
     adds_now adds first second = (
-        gathered-append adds done (Taken i envelope ∷ (Shown i input ∷ a))
-        ∙ ap (λ xs. gathered adds done ++ (xs ++ (adds (Shown i input) ++ gathered adds a))) first
-        ∙ ap (λ xs. gathered adds done ++ (xs ++ gathered adds a)) second,
-        gathered-append adds done t
-        ∙ ap (λ xs. gathered adds done ++ (xs ++ (adds (Shown i input) ++ gathered adds os))) first
-        ∙ ap (λ xs. gathered adds done ++ (xs ++ gathered adds os)) second
-        ∙ ap (λ xs. gathered adds done ++ gathered adds xs) is
-        ∙ ap (λ xs. gathered adds done ++ xs) (gathered-append adds a (e ∷ b))
-        )
+      gathered-append adds done (Taken i envelope ∷ (Shown i input ∷ a))
+          ∙ ap (λ xs. gathered adds done ++ (xs ++ (adds (Shown i input) ++ gathered adds a))) first
+          ∙ ap (λ xs. gathered adds done ++ (xs ++ gathered adds a)) second,
+      gathered-append adds done t
+          ∙ ap (λ xs. gathered adds done ++ (xs ++ (adds (Shown i input) ++ gathered adds os))) first
+          ∙ ap (λ xs. gathered adds done ++ (xs ++ gathered adds os)) second
+          ∙ ap (λ xs. gathered adds done ++ gathered adds xs) is
+          ∙ ap (λ xs. gathered adds done ++ xs) (gathered-append adds a (e ∷ b)),
+    )
 
   pub links_append : (j : ℕ) (xs ys : List (ℕ × Peer))
       → links.messages_to j (xs ++ ys) ≡ links.messages_to j xs ++ links.messages_to j ys
@@ -238,24 +232,28 @@ module _ (s : OpenedChain) (i : ℕ) (done : List Event) (h : Between s i done) 
       let up : failures_by i j done ≡ 0 = elim (none_or_some (failures_by i j done)) [
         | inl none ↦ none
         | inr failed ↦ absurd (
-            let nothing : links.messages_to j (gathered (puts i) a) ++ peer ∷ later ≡ [] = sym sent ∙ adv.down j failed in
+            let nothing : links.messages_to j (gathered (puts i) a) ++ peer ∷ later ≡ [] =
+            sym sent ∙ adv.down j failed in
             let many = ap (λ xs. length xs) nothing in
             let sum = length-append (links.messages_to j (gathered (puts i) a)) (peer ∷ later) in
             omega (arith, many, sum)
             )
       ] in
       let whole = h.whole adv.going j up in
-      let front = adv.front j in
-      (going_now a e b is,
-      (later ++ front.0,
-      ap (messages_to j) (outputs_now a e b is) ∙ messages_to-append j (outputs_of s i done) step_outs
-      ∙ ap (λ xs. xs ++ messages_to j step_outs) (sym whole)
-      ∙ ap (λ xs. links.messages_to j (put_by i done) ++ xs) (front.1 ∙ ap (λ xs. xs ++ front.0) sent
-      ∙ append_assoc (links.messages_to j (gathered (puts i) a)) (peer ∷ later) front.0)
-      ∙ sym (append_assoc (links.messages_to j (put_by i done)) (links.messages_to j (gathered (puts i) a))
-      (peer ∷ (later ++ front.0)))
-      ∙ ap (λ xs. xs ++ peer ∷ (later ++ front.0))
-      (sym (ap (links.messages_to j) adds.0 ∙ links_append j (put_by i done) (gathered (puts i) a)))))
+      let front = adv.front j in (
+        going_now a e b is,
+        (
+          later ++ front.0,
+          ap (messages_to j) (outputs_now a e b is) ∙ messages_to-append j (outputs_of s i done) step_outs
+              ∙ ap (λ xs. xs ++ messages_to j step_outs) (sym whole)
+              ∙ ap (λ xs. links.messages_to j (put_by i done) ++ xs) (front.1 ∙ ap (λ xs. xs ++ front.0) sent
+              ∙ append_assoc (links.messages_to j (gathered (puts i) a)) (peer ∷ later) front.0)
+              ∙ sym (append_assoc (links.messages_to j (put_by i done)) (links.messages_to j (gathered (puts i) a))
+              (peer ∷ (later ++ front.0)))
+              ∙ ap (λ xs. xs ++ peer ∷ (later ++ front.0))
+              (sym (ap (links.messages_to j) adds.0 ∙ links_append j (put_by i done) (gathered (puts i) a))),
+        ),
+      )
 
   -- a reply is put
   answered_step : (a : List Event) (reply : NotedReply) (b : List Event)
@@ -266,34 +264,36 @@ module _ (s : OpenedChain) (i : ℕ) (done : List Event) (h : Between s i done) 
       let p = reply.port in
       let adds = adds_now a e b is (answers i p) refl refl in
       let mine : answers i p e ≡ reply ∷ [] =
-      ap (λ c. only_if c reply) (and_from (i == i) (p == p) (eq-eqb i i refl) (eq-eqb p p refl)) in
-      (going_now a e b is,
-      given_now a e b is,
-      λ below.
-      let put = adv.replied p below in
-      let more_is : put.0 ≡ gathered (answers i p) a ++ (reply ∷ gathered (answers i p) b) =
-      append_cancel_left (answered_at i p done) put.0 (gathered (answers i p) a ++ (reply ∷ gathered (answers i p) b))
-      (sym put.1 ∙ adds.1
-      ∙ ap (λ xs. answered_at i p done ++ (gathered (answers i p) a ++ (xs ++ gathered (answers i p) b))) mine) in
-      let later = replies_in (gathered (answers i p) b) in
-      let first = replies_in (gathered (answers i p) a) in
-      let more : replies_in put.0 ≡ (first ++ reply.reply ∷ []) ++ later =
-      ap replies_in more_is ∙ replies_in-append (gathered (answers i p) a) (reply ∷ gathered (answers i p) b)
-      ∙ sym (append_assoc first (reply.reply ∷ []) later) in
-      let all : Sub (replies_to p (outputs_of s i done) ++ replies_to p step_outs)
-      (replies_in (answered_at i p done) ++ (first ++ reply.reply ∷ [])) =
-      sub_both (replies_to p (outputs_of s i done)) (replies_to p step_outs) (replies_in (answered_at i p done))
-      (first ++ reply.reply ∷ []) (h.some p below)
-      (sub_front (replies_to p step_outs) (first ++ reply.reply ∷ []) later
-      (subst (λ xs. Sub (replies_to p step_outs) xs) more put.2)) in
-      subst (λ xs. Sub xs (replies_in (answered_at i p (done ++ (Taken i envelope ∷ (Shown i input ∷ a))))
-      ++ reply.reply ∷ []))
-      (sym (ap (replies_to p) (outputs_now a e b is) ∙ replies_to-append p (outputs_of s i done) step_outs))
-      (subst (λ ys. Sub (replies_to p (outputs_of s i done) ++ replies_to p step_outs) ys)
-      (sym (ap (λ xs. replies_in xs ++ reply.reply ∷ []) adds.0
-      ∙ ap (λ xs. xs ++ reply.reply ∷ []) (replies_in-append (answered_at i p done) (gathered (answers i p) a))
-      ∙ append_assoc (replies_in (answered_at i p done)) first (reply.reply ∷ [])))
-      all))
+      ap (λ c. only_if c reply) (and_from (i == i) (p == p) (eq-eqb i i refl) (eq-eqb p p refl)) in (
+        going_now a e b is,
+        given_now a e b is,
+        λ below.
+            let put = adv.replied p below in
+            let more_is : put.0 ≡ gathered (answers i p) a ++ (reply ∷ gathered (answers i p) b) =
+            append_cancel_left (answered_at i p done) put.0
+            (gathered (answers i p) a ++ (reply ∷ gathered (answers i p) b))
+            (sym put.1 ∙ adds.1
+            ∙ ap (λ xs. answered_at i p done ++ (gathered (answers i p) a ++ (xs ++ gathered (answers i p) b))) mine) in
+            let later = replies_in (gathered (answers i p) b) in
+            let first = replies_in (gathered (answers i p) a) in
+            let more : replies_in put.0 ≡ (first ++ reply.reply ∷ []) ++ later =
+            ap replies_in more_is ∙ replies_in-append (gathered (answers i p) a) (reply ∷ gathered (answers i p) b)
+            ∙ sym (append_assoc first (reply.reply ∷ []) later) in
+            let all : Sub (replies_to p (outputs_of s i done) ++ replies_to p step_outs)
+            (replies_in (answered_at i p done) ++ (first ++ reply.reply ∷ [])) =
+            sub_both (replies_to p (outputs_of s i done)) (replies_to p step_outs) (replies_in (answered_at i p done))
+            (first ++ reply.reply ∷ []) (h.some p below)
+            (sub_front (replies_to p step_outs) (first ++ reply.reply ∷ []) later
+            (subst (λ xs. Sub (replies_to p step_outs) xs) more put.2)) in
+            subst (λ xs. Sub xs (replies_in (answered_at i p (done ++ (Taken i envelope ∷ (Shown i input ∷ a))))
+            ++ reply.reply ∷ []))
+            (sym (ap (replies_to p) (outputs_now a e b is) ∙ replies_to-append p (outputs_of s i done) step_outs))
+            (subst (λ ys. Sub (replies_to p (outputs_of s i done) ++ replies_to p step_outs) ys)
+            (sym (ap (λ xs. replies_in xs ++ reply.reply ∷ []) adds.0
+            ∙ ap (λ xs. xs ++ reply.reply ∷ []) (replies_in-append (answered_at i p done) (gathered (answers i p) a))
+            ∙ append_assoc (replies_in (answered_at i p done)) first (reply.reply ∷ [])))
+            all),
+      )
 
 -- ---- any turn
 

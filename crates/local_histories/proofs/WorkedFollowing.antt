@@ -1,6 +1,6 @@
 -- Worked histories: each event may follow those before it, by the rules or by rules without one of their parts; and
 -- four of them have no order.
-use Rattle.std.proofs.Common.{◌≡◌, ℕ, ◌<◌, ◌≤◌, List, [], ◌∷◌, ◌++◌, None, Some, refl, arith, ap, lit<}
+use Rattle.std.proofs.Common.{◌≡◌, [], ◌∷◌, ◌++◌, Some, refl, lit<}
 use Rattle.table.specs.declared.operations.Reply.TheVariants.{Stored}
 use Rattle.node.specs.Joining.{widened, taken_all, sent_again, forwarded, replies_to, promoted_to_head}
 use Rattle.node.specs.Joining.{promoted_to_tail, caught_up, acked_to_predecessor, asks_renewed}
@@ -8,19 +8,12 @@ use Rattle.node.specs.Numbering.{left_open, replies, risen, appended, passed_on,
 use Rattle.node.specs.Servers.{most}
 use Rattle.node.specs.Steps.{trimmed}
 use Rattle.node.specs.Views.{has, union, single, is_below, adds, next_from, predecessor}
-use Rattle.node.specs.declared.messages.Input.TheVariants.{Call as Called, From, Gone}
 use Rattle.world.specs.WorkedSchedules.{name}
-use Rattle.interleavings.specs.WorkedRuns.{key, set}
-use Rattle.interleavings.proofs.examples.WorkedLooks.{opening_shows}
-use Rattle.local_histories.specs.CallOrders.{reply_to, HasNoOrder}
+use Rattle.local_histories.specs.CallOrders.{reply_to}
 use Rattle.local_histories.specs.Following.{MayFollow}
-use Rattle.local_histories.specs.Standing.{read_by, read_reply, all_moves}
+use Rattle.local_histories.specs.Standing.{all_moves}
 use Rattle.local_histories.specs.WorkedHistories.{opened, head_and_tail, set_events, look_at_tail, set_and_look_moves}
-use Rattle.local_histories.specs.WorkedHistories.{look_at_first, alone, older_events, told_events, unput_events}
-use Rattle.local_histories.specs.WorkedHistories.{tail_and_head, early_events}
-use Rattle.local_histories.specs.WrongRules.{AllFollow, FollowsWithoutBoards, FollowsWithoutNotices}
-use Rattle.local_histories.specs.WrongRules.{FollowsWithoutLinks, FollowsWithoutTurns}
-use Rattle.local_histories.proofs.MissedLook.{no_order}
+use Rattle.local_histories.specs.WrongRules.{AllFollow}
 
 -- ---- a set passes down and back, and a look finds it
 
@@ -36,8 +29,43 @@ pub set_follows : AllFollow MayFollow (opened 2 head_and_tail) [] (set_events ++
 unfolding set_events has union single is_below adds next_from predecessor most appended entered widened taken_all
     sent_again forwarded replies_to trimmed left_open replies risen passed_on take_update promoted_to_head
     promoted_to_tail caught_up acked_to_predecessor asks_renewed
-set_follows =
-    (refl, ((λ g. (refl, ([], refl))), ((refl, refl), ((refl, ([], refl)), (tt,
-    ((λ g. (refl, (lit< tt, ([], refl)))), ((refl, refl), ((refl, ([], refl)), (tt,
-    ((λ g. (refl, (lit< tt, ([], refl)))), ((refl, refl), ((refl, ([], refl)), (([], refl),
-    ((refl, (refl, refl)), tt))))))))))))))
+set_follows = (
+  refl,
+  (
+    (λ g. (refl, ([], refl))),
+    (
+      (refl, refl),
+      (
+        (refl, ([], refl)),
+        (
+          tt,
+          (
+            (λ g. (refl, (lit< tt, ([], refl)))),
+            (
+              (refl, refl),
+              (
+                (refl, ([], refl)),
+                (
+                  tt,
+                  (
+                    (λ g. (refl, (lit< tt, ([], refl)))),
+                    (
+                      (refl, refl),
+                      (
+                        (refl, ([], refl)),
+                        (
+                          ([], refl),
+                          ((refl, (refl, refl)), tt),
+                        ),
+                      ),
+                    ),
+                  ),
+                ),
+              ),
+            ),
+          ),
+        ),
+      ),
+    ),
+  ),
+)

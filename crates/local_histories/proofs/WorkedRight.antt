@@ -1,5 +1,5 @@
 -- A worked history that is right object by object: one server, a client that sets, and a reader that looks.
-use Rattle.std.proofs.Common.{◌≡◌, ◌≢◌, ℕ, zero, suc, ◌<◌, ◌≤◌, Bool, true, false, cond, List, [], ◌∷◌, ◌++◌, take}
+use Rattle.std.proofs.Common.{◌≡◌, ℕ, zero, suc, ◌<◌, ◌≤◌, cond, List, [], ◌∷◌, ◌++◌, take}
 use Rattle.std.proofs.Common.{Some, refl, arith, ap, sym, ◌∙◌, subst, inl, inr, ◌⊎◌, lit<, lit≤, true≢false}
 use Rattle.std.specs.Prelude.{◌==◌, slice_get}
 use Rattle.std.specs.declared.result.Result.TheVariants.{Ok}
@@ -13,7 +13,6 @@ use Rattle.node.specs.Steps.{trimmed}
 use Rattle.node.specs.Views.{has, union, single, is_below, adds, next_from, predecessor}
 use Rattle.node.specs.declared.messages.Input.TheVariants.{Call as Called}
 use Rattle.rail.specs.declared.inbox_messages.Envelope.{Envelope}
-use Rattle.rail.specs.declared.inbox_messages.InboxMessage.{InboxMessage}
 use Rattle.rail.specs.declared.inbox_messages.InboxMessage.TheVariants.{Took}
 use Rattle.rail.specs.declared.inbox.InboxKnowledge.{InboxKnowledge}
 use Rattle.rail.specs.declared.reply_channels.ReplyKnowledge.{ReplyKnowledge}
@@ -24,16 +23,16 @@ use Rattle.rail.specs.Links as links
 use Rattle.rail.specs.NotedReplies.{Address, NotedReply}
 use Rattle.rail.specs.ReplyMessages as queues
 use Rattle.interleavings.specs.OwnPorts.{seats_at}
-use Rattle.interleavings.specs.WorkedRuns.{key, set}
+use Rattle.interleavings.specs.WorkedRuns.{set}
 use Rattle.interleavings.proofs.examples.AskedCalls.{set_asked, get_asked}
-use Rattle.local_histories.specs.Events.{Event, Sent, Taken, Shown, Answered, Got, Looked}
+use Rattle.local_histories.specs.Events.{Event, Sent, Taken, Shown, Answered, Got}
 use Rattle.local_histories.specs.Objects.{OpenedChain, only_if, sent_by, taken_by, brought_from, answered_at, got_at}
 use Rattle.local_histories.specs.Objects.{address_at, put_by}
 use Rattle.local_histories.specs.LocalRules.{IsOpened, AreOf, HasInbox, HasReplies, IsAtFreeSeat, ShowsWhatStands}
 use Rattle.local_histories.specs.LocalRules.{TellsOfStopped, BringsNoCall, IsOfChain, HaveOneSender, KeepRules}
 use Rattle.local_histories.specs.LocalRules.{AreLocallyRight}
 use Rattle.local_histories.specs.Turns.{HasTurns, IsTurnAfter}
-use Rattle.local_histories.specs.WorkedHistories.{opened, envelope, stored_by, after_inputs, alone, older_events}
+use Rattle.local_histories.specs.WorkedHistories.{opened, envelope, stored_by, alone, older_events}
 use Rattle.local_histories.specs.WorkedHistories.{look_at_last}
 use mathlib.Core.List.{IsPrefix}
 
@@ -76,22 +75,23 @@ module _ (P : List Event → Type 0)
     ∷ (Taken 0 message ∷ (Shown 0 (Called 0 set) ∷ (Answered 0 reply ∷ (Got 0 reply ∷ []))))))
     (p6 : P (Sent 0 0 0 set
     ∷ (Taken 0 message ∷ (Shown 0 (Called 0 set) ∷ (Answered 0 reply ∷ (Got 0 reply ∷ (look_at_last ∷ [])))))))
-    where
-  each_front : (n : ℕ) → P (take n es)
-  unfolding older_events
-  each_front zero = p0
-  each_front (suc zero) = p1
-  each_front (suc (suc zero)) = p2
-  each_front (suc (suc (suc zero))) = p3
-  each_front (suc (suc (suc (suc zero)))) = p4
-  each_front (suc (suc (suc (suc (suc zero))))) = p5
-  each_front (suc (suc (suc (suc (suc (suc n)))))) =
-      subst (λ xs. P (Sent 0 0 0 set ∷ (Taken 0 message ∷ (Shown 0 (Called 0 set) ∷ (Answered 0 reply
-      ∷ (Got 0 reply ∷ (look_at_last ∷ xs))))))) (sym (take_none n)) p6
+  where
+    each_front : (n : ℕ) → P (take n es)
+    unfolding older_events
+    each_front zero = p0
+    each_front (suc zero) = p1
+    each_front (suc (suc zero)) = p2
+    each_front (suc (suc (suc zero))) = p3
+    each_front (suc (suc (suc (suc zero)))) = p4
+    each_front (suc (suc (suc (suc (suc zero))))) = p5
+    each_front (suc (suc (suc (suc (suc (suc n)))))) =
+        subst (λ xs. P (Sent 0 0 0 set ∷ (Taken 0 message ∷ (Shown 0 (Called 0 set) ∷ (Answered 0 reply
+        ∷ (Got 0 reply ∷ (look_at_last ∷ xs))))))) (sym (take_none n)) p6
 
 -- ---- tables
 
-module _ (fs : List Event) (items taken : List Envelope) (sent : (k : ℕ) → sent_by 0 k fs ≡ inboxes.of k (taken ++ items))
+module _ (fs : List Event) (items taken : List Envelope)
+    (sent : (k : ℕ) → sent_by 0 k fs ≡ inboxes.of k (taken ++ items))
     (took : taken_by 0 fs ≡ taken) (one : (k : ℕ) → 1 ≤ k → inboxes.of k (taken ++ items) ≡ [])
     (below : AreBelow 1 items) where
   abbrev views : List InboxKnowledge
@@ -105,9 +105,16 @@ module _ (fs : List Event) (items taken : List Envelope) (sent : (k : ℕ) → s
       → inboxes.Fits 0 seat (λ k. sent_by 0 k fs) taken 1 pass v
   each_fits zero v e =
       subst (λ x. inboxes.Fits 0 seat (λ k. sent_by 0 k fs) taken 1 0 x)
-      (some-injective (inboxes.taker 1 1 taken) v e)
-      ((λ z. absurd (true≢false (sym z))), λ z. (refl, refl, refl, λ k high.
-      (ap (λ b. cond b (some 1) none) (ne_eqb k 0 (λ f. omega (arith, f, high))), sent k ∙ one k high)))
+      (some-injective (inboxes.taker 1 1 taken) v e) (
+        (λ z. absurd (true≢false (sym z))),
+        λ z. (
+          refl,
+          refl,
+          refl,
+          λ k high.
+              (ap (λ b. cond b (some 1) none) (ne_eqb k 0 (λ f. omega (arith, f, high))), sent k ∙ one k high),
+        ),
+      )
   each_fits (suc zero) v e =
       subst (λ x. inboxes.Fits 0 seat (λ k. sent_by 0 k fs) taken 1 1 x)
       (some-injective (inboxes.sender 0 1 (sent_by 0 0 fs)) v e)
@@ -224,22 +231,28 @@ turn_is = record {
   is = record {
     message = message;
     taken = refl;
-    did = (Called 0 set, refl, record {
-      going = refl;
-      still = refl;
-      published = refl;
-      messages = record {
-        put = [];
-        list = refl;
-        order = refl;
-        beginning = λ j. ([], refl);
-        whole = λ j up. refl;
-        down = λ j down. refl;
-      };
-      replies = (record { address = refl; more = reply ∷ []; put = refl; left = inr ([], refl, refl); gone = λ g. g },
-      refl);
-      seated = (lit< tt, tt);
-    });
+    did = (
+      Called 0 set,
+      refl,
+      record {
+        going = refl;
+        still = refl;
+        published = refl;
+        messages = record {
+          put = [];
+          list = refl;
+          order = refl;
+          beginning = λ j. ([], refl);
+          whole = λ j up. refl;
+          down = λ j down. refl;
+        };
+        replies = (
+          record { address = refl; more = reply ∷ []; put = refl; left = inr ([], refl, refl); gone = λ g. g },
+          refl,
+        );
+        seated = (lit< tt, tt);
+      },
+    );
   };
 }
 
@@ -310,6 +323,16 @@ is_opened = record {
 -- with events of these servers
 pub are_of : AreOf s es
 unfolding older_events
-are_of =
-    ((lit< tt, lit< tt, set_asked), (lit< tt, ((lit< tt, (lit≤ tt, refl), tt), ((lit< tt, lit< tt),
-    ((lit< tt, lit< tt), ((lit< tt, lit< tt, get_asked), tt))))))
+are_of = (
+  (lit< tt, lit< tt, set_asked),
+  (
+    lit< tt,
+    (
+      (lit< tt, (lit≤ tt, refl), tt),
+      (
+        (lit< tt, lit< tt),
+        ((lit< tt, lit< tt), ((lit< tt, lit< tt, get_asked), tt)),
+      ),
+    ),
+  ),
+)

@@ -40,7 +40,8 @@ pub data Event : Type 0 where
   -- `faces`, `Reader::look`: `looked` (`Looking.looks`) and `found`.
   Looked : (i q : ℕ) (key : List ℕ) (stood : History) → Event
   -- The face of server i is taken away, or the process of i has ended.
-  -- `rail`, `Worker::turn`: `turn` (`IsStopped`, `WasCut`, `HasClosed`); `faces`, `Publisher::end`, which has no clause.
+  -- `rail`, `Worker::turn`: `turn` (`IsStopped`, `WasCut`, `HasClosed`); `faces`, `Publisher::end`, which has no
+  -- clause.
   Halted : (i : ℕ) → Event
   -- The link of server i to server j fails once more.
   -- `rail`, `Links::put`: `failures`, `fault`.

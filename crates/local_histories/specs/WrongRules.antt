@@ -1,10 +1,10 @@
 -- Rules without one of their parts; all that the part doesn't bear on is as in `Following.antt`.
 use Rattle.std.specs.Prelude.{◌≡◌, ◌<◌, true, false, ℕ, List, [], ◌∷◌, ◌++◌}
-use Rattle.node.specs.declared.messages.Input.TheVariants.{Call as Called, From, Gone}
+use Rattle.node.specs.declared.messages.Input.TheVariants.{From, Gone}
 use Rattle.node.specs.Runs.{put_out}
 use Rattle.faces.specs.Histories.{IsLater}
 use Rattle.rail.specs.declared.inbox_messages.InboxMessage.{InboxMessage}
-use Rattle.rail.specs.declared.inbox_messages.InboxMessage.TheVariants.{Took, Stop, End}
+use Rattle.rail.specs.declared.inbox_messages.InboxMessage.TheVariants.{Took}
 use Rattle.rail.specs.Links as links
 use Rattle.interleavings.specs.Chains.{messages_to}
 use Rattle.local_histories.specs.Events.{Event, Taken, Put, Looked}
