@@ -21,3 +21,4 @@ pub mod BetweenTurns
 pub mod Counting
 pub mod StepsOfTurns
 pub mod WorkedRight
+pub mod WorkedUnshown

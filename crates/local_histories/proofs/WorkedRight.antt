@@ -12,6 +12,7 @@ use Rattle.node.specs.Servers.{most}
 use Rattle.node.specs.Steps.{trimmed}
 use Rattle.node.specs.Views.{has, union, single, is_below, adds, next_from, predecessor}
 use Rattle.node.specs.declared.messages.Input.TheVariants.{Call as Called}
+use Rattle.faces.specs.Histories.{History}
 use Rattle.rail.specs.declared.inbox_messages.Envelope.{Envelope}
 use Rattle.rail.specs.declared.inbox_messages.InboxMessage.TheVariants.{Took}
 use Rattle.rail.specs.declared.inbox.InboxKnowledge.{InboxKnowledge}
@@ -23,70 +24,28 @@ use Rattle.rail.specs.Links as links
 use Rattle.rail.specs.NotedReplies.{Address, NotedReply}
 use Rattle.rail.specs.ReplyMessages as queues
 use Rattle.interleavings.specs.OwnPorts.{seats_at}
-use Rattle.interleavings.specs.WorkedRuns.{set}
+use Rattle.interleavings.specs.WorkedRuns.{key, set}
 use Rattle.interleavings.proofs.examples.AskedCalls.{set_asked, get_asked}
-use Rattle.local_histories.specs.Events.{Event, Sent, Taken, Shown, Answered, Got}
+use Rattle.local_histories.specs.Events.{Event, Sent, Taken, Shown, Answered, Got, Looked}
 use Rattle.local_histories.specs.Objects.{OpenedChain, only_if, sent_by, taken_by, brought_from, answered_at, got_at}
 use Rattle.local_histories.specs.Objects.{address_at, put_by}
 use Rattle.local_histories.specs.LocalRules.{IsOpened, AreOf, HasInbox, HasReplies, IsAtFreeSeat, ShowsWhatStands}
-use Rattle.local_histories.specs.LocalRules.{TellsOfStopped, BringsNoCall, IsOfChain, HaveOneSender, KeepRules}
+use Rattle.local_histories.specs.LocalRules.{TellsOfStopped, BringsNoCall, IsOfChain, HaveOneSender}
 use Rattle.local_histories.specs.LocalRules.{AreLocallyRight}
 use Rattle.local_histories.specs.Turns.{HasTurns, IsTurnAfter}
 use Rattle.local_histories.specs.WorkedHistories.{opened, envelope, stored_by, alone, older_events}
-use Rattle.local_histories.specs.WorkedHistories.{look_at_last}
+use Rattle.local_histories.specs.WorkedHistories.{after_inputs, look_at_first, look_at_last}
+use Rattle.local_histories.specs.WrongRules.{AreRightWithoutBoards, ShowsAnyFace}
 use mathlib.Core.List.{IsPrefix}
 
-abbrev s : OpenedChain
+abbrev pub s : OpenedChain
 s = opened 1 alone
 
-abbrev es : List Event
-es = older_events ++ look_at_last ∷ []
-
-abbrev message : Envelope
+abbrev pub message : Envelope
 message = envelope 0 (Called 0 set)
 
-abbrev reply : NotedReply
+abbrev pub reply : NotedReply
 reply = stored_by 1 0 (Called 0 set ∷ [])
-
--- ---- by the places of the events
-
-module _ (P : ℕ → Event → Type 0)
-    (a : P 0 (Sent 0 0 0 set)) (b : P 1 (Taken 0 message)) (c : P 2 (Shown 0 (Called 0 set)))
-    (d : P 3 (Answered 0 reply)) (f : P 4 (Got 0 reply)) (g : P 5 look_at_last) where
-  each_place : (n : ℕ) (e : Event) → slice_get es n ≡ Some e → P n e
-  unfolding older_events
-  each_place zero e h = subst (λ x. P 0 x) (same_Some (Sent 0 0 0 set) e h) a
-  each_place (suc zero) e h = subst (λ x. P 1 x) (same_Some (Taken 0 message) e h) b
-  each_place (suc (suc zero)) e h = subst (λ x. P 2 x) (same_Some (Shown 0 (Called 0 set)) e h) c
-  each_place (suc (suc (suc zero))) e h = subst (λ x. P 3 x) (same_Some (Answered 0 reply) e h) d
-  each_place (suc (suc (suc (suc zero)))) e h = subst (λ x. P 4 x) (same_Some (Got 0 reply) e h) f
-  each_place (suc (suc (suc (suc (suc zero))))) e h = subst (λ x. P 5 x) (same_Some look_at_last e h) g
-  each_place (suc (suc (suc (suc (suc (suc n)))))) e h = absurd cc
-
-take_none : (n : ℕ) → take {A = Event} n [] ≡ []
-take_none zero = refl
-take_none (suc n) = refl
-
-module _ (P : List Event → Type 0)
-    (p0 : P []) (p1 : P (Sent 0 0 0 set ∷ [])) (p2 : P (Sent 0 0 0 set ∷ (Taken 0 message ∷ [])))
-    (p3 : P (Sent 0 0 0 set ∷ (Taken 0 message ∷ (Shown 0 (Called 0 set) ∷ []))))
-    (p4 : P (Sent 0 0 0 set ∷ (Taken 0 message ∷ (Shown 0 (Called 0 set) ∷ (Answered 0 reply ∷ [])))))
-    (p5 : P (Sent 0 0 0 set
-    ∷ (Taken 0 message ∷ (Shown 0 (Called 0 set) ∷ (Answered 0 reply ∷ (Got 0 reply ∷ []))))))
-    (p6 : P (Sent 0 0 0 set
-    ∷ (Taken 0 message ∷ (Shown 0 (Called 0 set) ∷ (Answered 0 reply ∷ (Got 0 reply ∷ (look_at_last ∷ [])))))))
-  where
-    each_front : (n : ℕ) → P (take n es)
-    unfolding older_events
-    each_front zero = p0
-    each_front (suc zero) = p1
-    each_front (suc (suc zero)) = p2
-    each_front (suc (suc (suc zero))) = p3
-    each_front (suc (suc (suc (suc zero)))) = p4
-    each_front (suc (suc (suc (suc (suc zero))))) = p5
-    each_front (suc (suc (suc (suc (suc (suc n)))))) =
-        subst (λ xs. P (Sent 0 0 0 set ∷ (Taken 0 message ∷ (Shown 0 (Called 0 set) ∷ (Answered 0 reply
-        ∷ (Got 0 reply ∷ (look_at_last ∷ xs))))))) (sym (take_none n)) p6
 
 -- ---- tables
 
@@ -121,7 +80,7 @@ module _ (fs : List Event) (items taken : List Envelope)
       ((λ z. (refl, refl, omega arith)), λ z. absurd (true≢false (sym z)))
   each_fits (suc (suc pass)) v e = absurd (some-ne-none v (sym e))
 
-  inbox_there : HasInbox s 0 fs
+  pub inbox_there : HasInbox s 0 fs
   inbox_there = record {
     items = items;
     views = views;
@@ -146,28 +105,21 @@ module _ (fs : List Event) (items taken : List Envelope)
   }
 
 -- the one message, of sender 0
-sent_one : (k : ℕ) → only_if (0 == k) (Took (Called 0 set)) ++ [] ≡ inboxes.of k (message ∷ [])
+pub sent_one : (k : ℕ) → only_if (0 == k) (Took (Called 0 set)) ++ [] ≡ inboxes.of k (message ∷ [])
 sent_one k = elim (cases_eq k 0) [
   | inl same ↦ subst (λ x. only_if (0 == x) (Took (Called 0 set)) ++ [] ≡ inboxes.of x (message ∷ [])) (sym same) refl
   | inr other ↦ ap (λ b. only_if b (Took (Called 0 set)) ++ []) (ne_eqb 0 k (λ f. other (sym f)))
       ∙ sym (ap (λ b. cond b (Took (Called 0 set) ∷ []) []) (ne_eqb k 0 other))
 ]
 
-of_first : (k : ℕ) → 1 ≤ k → inboxes.of k (message ∷ []) ≡ []
+pub of_first : (k : ℕ) → 1 ≤ k → inboxes.of k (message ∷ []) ≡ []
 of_first k high = ap (λ b. cond b (Took (Called 0 set) ∷ []) []) (ne_eqb k 0 (λ f. omega (arith, f, high)))
 
-taken_there : (fs : List Event)
+pub taken_there : (fs : List Event)
     → ((k : ℕ) → sent_by 0 k fs ≡ only_if (0 == k) (Took (Called 0 set)) ++ [])
     → taken_by 0 fs ≡ message ∷ []
     → HasInbox s 0 fs
 taken_there fs sent took = inbox_there fs [] (message ∷ []) (λ k. sent k ∙ sent_one k) took of_first tt
-
-right_inbox : (n : ℕ) → HasInbox s 0 (take n es)
-right_inbox = each_front (HasInbox s 0)
-    (inbox_there [] [] [] (λ k. refl) refl (λ k high. refl) tt)
-    (inbox_there (Sent 0 0 0 set ∷ []) (message ∷ []) [] sent_one refl of_first ((lit< tt, tt), tt))
-    (taken_there _ (λ k. refl) refl) (taken_there _ (λ k. refl) refl) (taken_there _ (λ k. refl) refl)
-    (taken_there _ (λ k. refl) refl) (taken_there _ (λ k. refl) refl)
 
 abbrev there : Address
 there = address_at s 0 0
@@ -184,7 +136,7 @@ module _ (fs : List Event) (put got items : List NotedReply) (order : got ++ ite
   each_pass (suc zero) v e = inr (sym (some-injective (queues.taker there got) v e), refl)
   each_pass (suc (suc pass)) v e = absurd (some-ne-none v (sym e))
 
-  queue_there : HasReplies s 0 0 fs
+  pub queue_there : HasReplies s 0 0 fs
   queue_there = record {
     items = items;
     views = passes;
@@ -203,18 +155,6 @@ module _ (fs : List Event) (put got items : List NotedReply) (order : got ++ ite
     puts = ap (λ rs. some (queues.putter there rs)) (sym puts);
     takes = ap (λ rs. some (queues.taker there rs)) (sym gets);
   }
-
-right_queue : (n : ℕ) → HasReplies s 0 0 (take n es)
-right_queue = each_front (HasReplies s 0 0)
-    (queue_there _ [] [] [] refl refl refl tt) (queue_there _ [] [] [] refl refl refl tt)
-    (queue_there _ [] [] [] refl refl refl tt) (queue_there _ [] [] [] refl refl refl tt)
-    (queue_there _ (reply ∷ []) [] (reply ∷ []) refl refl refl (refl, tt))
-    (queue_there _ (reply ∷ []) (reply ∷ []) [] refl refl refl tt)
-    (queue_there _ (reply ∷ []) (reply ∷ []) [] refl refl refl tt)
-
-right_links : (n i j : ℕ) → IsPrefix (brought_from i j (take n es)) (links.messages_to j (put_by i (take n es)))
-right_links n i j = each_front (λ fs. IsPrefix (brought_from i j fs) (links.messages_to j (put_by i fs)))
-    ([], refl) ([], refl) ([], refl) ([], refl) ([], refl) ([], refl) ([], refl) n
 
 -- ---- the turn
 
@@ -256,61 +196,144 @@ turn_is = record {
   };
 }
 
-right_turns : HasTurns s 0 es
-unfolding older_events
-right_turns = record {
-  turns = turn ∷ [];
-  last = [];
-  ended = [];
-  all = refl;
-  are = (inl turn_is, tt);
-  begun = inl refl;
-  may = inl refl;
-}
+-- ---- the events, with a look at any face
 
--- ---- all of it
-
-at_zero : (i : ℕ) → i < 1 → 0 ≡ i
+pub at_zero : (i : ℕ) → i < 1 → 0 ≡ i
 at_zero i within = omega (arith, within)
 
-right_seats : (n : ℕ) (e : Event) → slice_get es n ≡ Some e → IsAtFreeSeat (take n es) e
+pub take_none : (n : ℕ) → take {A = Event} n [] ≡ []
+take_none zero = refl
+take_none (suc n) = refl
+
+module _ (stood : History) where
+  abbrev look : Event
+  look = Looked 0 1 key stood
+
+  abbrev es : List Event
+  es = older_events ++ look ∷ []
+
+  -- ---- by the places of the events
+
+  module _ (P : ℕ → Event → Type 0)
+      (a : P 0 (Sent 0 0 0 set)) (b : P 1 (Taken 0 message)) (c : P 2 (Shown 0 (Called 0 set)))
+      (d : P 3 (Answered 0 reply)) (f : P 4 (Got 0 reply)) (g : P 5 look) where
+    each_place : (n : ℕ) (e : Event) → slice_get es n ≡ Some e → P n e
+    unfolding older_events
+    each_place zero e h = subst (λ x. P 0 x) (same_Some (Sent 0 0 0 set) e h) a
+    each_place (suc zero) e h = subst (λ x. P 1 x) (same_Some (Taken 0 message) e h) b
+    each_place (suc (suc zero)) e h = subst (λ x. P 2 x) (same_Some (Shown 0 (Called 0 set)) e h) c
+    each_place (suc (suc (suc zero))) e h = subst (λ x. P 3 x) (same_Some (Answered 0 reply) e h) d
+    each_place (suc (suc (suc (suc zero)))) e h = subst (λ x. P 4 x) (same_Some (Got 0 reply) e h) f
+    each_place (suc (suc (suc (suc (suc zero))))) e h = subst (λ x. P 5 x) (same_Some look e h) g
+    each_place (suc (suc (suc (suc (suc (suc n)))))) e h = absurd cc
+
+  module _ (P : List Event → Type 0)
+      (p0 : P []) (p1 : P (Sent 0 0 0 set ∷ [])) (p2 : P (Sent 0 0 0 set ∷ (Taken 0 message ∷ [])))
+      (p3 : P (Sent 0 0 0 set ∷ (Taken 0 message ∷ (Shown 0 (Called 0 set) ∷ []))))
+      (p4 : P (Sent 0 0 0 set ∷ (Taken 0 message ∷ (Shown 0 (Called 0 set) ∷ (Answered 0 reply ∷ [])))))
+      (p5 : P (Sent 0 0 0 set
+      ∷ (Taken 0 message ∷ (Shown 0 (Called 0 set) ∷ (Answered 0 reply ∷ (Got 0 reply ∷ []))))))
+      (p6 : P (Sent 0 0 0 set
+      ∷ (Taken 0 message ∷ (Shown 0 (Called 0 set) ∷ (Answered 0 reply ∷ (Got 0 reply ∷ (look ∷ [])))))))
+    where
+      each_front : (n : ℕ) → P (take n es)
+      unfolding older_events
+      each_front zero = p0
+      each_front (suc zero) = p1
+      each_front (suc (suc zero)) = p2
+      each_front (suc (suc (suc zero))) = p3
+      each_front (suc (suc (suc (suc zero)))) = p4
+      each_front (suc (suc (suc (suc (suc zero))))) = p5
+      each_front (suc (suc (suc (suc (suc (suc n)))))) =
+          subst (λ xs. P (Sent 0 0 0 set ∷ (Taken 0 message ∷ (Shown 0 (Called 0 set) ∷ (Answered 0 reply
+          ∷ (Got 0 reply ∷ (look ∷ xs))))))) (sym (take_none n)) p6
+
+  right_inbox : (n : ℕ) → HasInbox s 0 (take n es)
+  right_inbox = each_front (HasInbox s 0)
+      (inbox_there [] [] [] (λ k. refl) refl (λ k high. refl) tt)
+      (inbox_there (Sent 0 0 0 set ∷ []) (message ∷ []) [] sent_one refl of_first ((lit< tt, tt), tt))
+      (taken_there _ (λ k. refl) refl) (taken_there _ (λ k. refl) refl) (taken_there _ (λ k. refl) refl)
+      (taken_there _ (λ k. refl) refl) (taken_there _ (λ k. refl) refl)
+
+  right_queue : (n : ℕ) → HasReplies s 0 0 (take n es)
+  right_queue = each_front (HasReplies s 0 0)
+      (queue_there _ [] [] [] refl refl refl tt) (queue_there _ [] [] [] refl refl refl tt)
+      (queue_there _ [] [] [] refl refl refl tt) (queue_there _ [] [] [] refl refl refl tt)
+      (queue_there _ (reply ∷ []) [] (reply ∷ []) refl refl refl (refl, tt))
+      (queue_there _ (reply ∷ []) (reply ∷ []) [] refl refl refl tt)
+      (queue_there _ (reply ∷ []) (reply ∷ []) [] refl refl refl tt)
+
+  right_links : (n i j : ℕ) → IsPrefix (brought_from i j (take n es)) (links.messages_to j (put_by i (take n es)))
+  right_links n i j = each_front (λ fs. IsPrefix (brought_from i j fs) (links.messages_to j (put_by i fs)))
+      ([], refl) ([], refl) ([], refl) ([], refl) ([], refl) ([], refl) ([], refl) n
+
+  right_turns : HasTurns s 0 es
+  unfolding older_events
+  right_turns = record {
+    turns = turn ∷ [];
+    last = [];
+    ended = [];
+    all = refl;
+    are = (inl turn_is, tt);
+    begun = inl refl;
+    may = inl refl;
+  }
+
+  right_seats : (n : ℕ) (e : Event) → slice_get es n ≡ Some e → IsAtFreeSeat (take n es) e
+  unfolding older_events
+  right_seats = each_place (λ n e. IsAtFreeSeat (take n es) e) refl tt tt tt tt refl
+
+  right_senders : (m n : ℕ) (e f : Event)
+      → slice_get es m ≡ Some e
+      → slice_get es n ≡ Some f
+      → HaveOneSender e f
+  right_senders m n e f first second = each_place (λ k x. HaveOneSender x f)
+      (each_place (λ k y. HaveOneSender (Sent 0 0 0 set) y) (λ a b. refl) tt tt tt tt tt n f second)
+      (each_place (λ k y. HaveOneSender (Taken 0 message) y) tt tt tt tt tt tt n f second)
+      (each_place (λ k y. HaveOneSender (Shown 0 (Called 0 set)) y) tt tt tt tt tt tt n f second)
+      (each_place (λ k y. HaveOneSender (Answered 0 reply) y) tt tt tt tt tt tt n f second)
+      (each_place (λ k y. HaveOneSender (Got 0 reply) y) tt tt tt tt tt tt n f second)
+      (each_place (λ k y. HaveOneSender look y) tt tt tt tt tt tt n f second) m e first
+
+  right_notices : (n : ℕ) (e : Event) → slice_get es n ≡ Some e → TellsOfStopped s (take n es) e
+  right_notices = each_place (λ n e. TellsOfStopped s (take n es) e) tt tt tt tt tt tt
+
+  right_inlets : (n : ℕ) (e : Event) → slice_get es n ≡ Some e → BringsNoCall e × IsOfChain s e
+  right_inlets = each_place (λ n e. BringsNoCall e × IsOfChain s e) (tt, tt) (tt, tt) (tt, tt) (tt, tt) (tt, tt) (tt, tt)
+
+  all_inboxes : (n i : ℕ) → i < 1 → HasInbox s i (take n es)
+  all_inboxes n i within = subst (λ x. HasInbox s x (take n es)) (at_zero i within) (right_inbox n)
+
+  all_queues : (n i p : ℕ) → i < 1 → p < 1 → HasReplies s i p (take n es)
+  all_queues n i p within below = subst (λ x. HasReplies s x p (take n es)) (at_zero i within)
+      (subst (λ q. HasReplies s 0 q (take n es)) (at_zero p below) (right_queue n))
+
+  all_turns : (i : ℕ) → i < 1 → HasTurns s i es
+  all_turns i within = subst (λ x. HasTurns s x es) (at_zero i within) right_turns
+
+-- ---- a look at what stands
+
+abbrev last : History
+last = after_inputs 1 0 (Called 0 set ∷ [])
+
+right_boards : (n : ℕ) (e : Event) → slice_get (es last) n ≡ Some e → ShowsWhatStands s (take n (es last)) e
 unfolding older_events
-right_seats = each_place (λ n e. IsAtFreeSeat (take n es) e) refl tt tt tt tt refl
-
-right_boards : (n : ℕ) (e : Event) → slice_get es n ≡ Some e → ShowsWhatStands s (take n es) e
-unfolding older_events
-right_boards = each_place (λ n e. ShowsWhatStands s (take n es) e) tt tt tt tt tt (refl, refl)
-
-right_senders : (m n : ℕ) (e f : Event)
-    → slice_get es m ≡ Some e
-    → slice_get es n ≡ Some f
-    → HaveOneSender e f
-right_senders m n e f first second = each_place (λ k x. HaveOneSender x f)
-    (each_place (λ k y. HaveOneSender (Sent 0 0 0 set) y) (λ a b. refl) tt tt tt tt tt n f second)
-    (each_place (λ k y. HaveOneSender (Taken 0 message) y) tt tt tt tt tt tt n f second)
-    (each_place (λ k y. HaveOneSender (Shown 0 (Called 0 set)) y) tt tt tt tt tt tt n f second)
-    (each_place (λ k y. HaveOneSender (Answered 0 reply) y) tt tt tt tt tt tt n f second)
-    (each_place (λ k y. HaveOneSender (Got 0 reply) y) tt tt tt tt tt tt n f second)
-    (each_place (λ k y. HaveOneSender look_at_last y) tt tt tt tt tt tt n f second) m e first
-
-right_rules : KeepRules s es
-right_rules = record {
-  inboxes = λ n i within. subst (λ x. HasInbox s x (take n es)) (at_zero i within) (right_inbox n);
-  replies = λ n i p within below. subst (λ x. HasReplies s x p (take n es)) (at_zero i within)
-      (subst (λ q. HasReplies s 0 q (take n es)) (at_zero p below) (right_queue n));
-  links = right_links;
-  seats = right_seats;
-  boards = right_boards;
-  notices = each_place (λ n e. TellsOfStopped s (take n es) e) tt tt tt tt tt tt;
-  inlets = each_place (λ n e. BringsNoCall e × IsOfChain s e) (tt, tt) (tt, tt) (tt, tt) (tt, tt) (tt, tt) (tt, tt);
-  senders = right_senders;
-}
+right_boards = each_place last (λ n e. ShowsWhatStands s (take n (es last)) e) tt tt tt tt tt (refl, refl)
 
 -- each object did what its contract says,
-pub are_right : AreLocallyRight s es
+pub are_right : AreLocallyRight s (older_events ++ look_at_last ∷ [])
 are_right = record {
-  rules = right_rules;
-  turns = λ i within. subst (λ x. HasTurns s x es) (at_zero i within) right_turns;
+  rules = record {
+    inboxes = all_inboxes last;
+    replies = all_queues last;
+    links = right_links last;
+    seats = right_seats last;
+    boards = right_boards;
+    notices = right_notices last;
+    inlets = right_inlets last;
+    senders = right_senders last;
+  };
+  turns = all_turns last;
 }
 
 -- of servers that were opened so,
@@ -321,7 +344,7 @@ is_opened = record {
 }
 
 -- with events of these servers
-pub are_of : AreOf s es
+pub are_of : AreOf s (older_events ++ look_at_last ∷ [])
 unfolding older_events
 are_of = (
   (lit< tt, lit< tt, set_asked),
@@ -336,3 +359,27 @@ are_of = (
     ),
   ),
 )
+
+-- ---- a look at an older face
+
+abbrev first : History
+first = after_inputs 1 0 []
+
+older_boards : (n : ℕ) (e : Event) → slice_get (es first) n ≡ Some e → ShowsAnyFace s (take n (es first)) e
+unfolding older_events
+older_boards = each_place first (λ n e. ShowsAnyFace s (take n (es first)) e) tt tt tt tt tt
+    (record { instance = refl; inputs = (Called 0 set ∷ [], refl) }, refl)
+
+-- all but the boards is right
+pub older_is_right : AreRightWithoutBoards s (older_events ++ look_at_first 1 0 1 ∷ [])
+older_is_right = record {
+  inboxes = all_inboxes first;
+  replies = all_queues first;
+  links = right_links first;
+  seats = right_seats first;
+  boards = older_boards;
+  notices = right_notices first;
+  inlets = right_inlets first;
+  senders = right_senders first;
+  turns = all_turns first;
+}

@@ -107,7 +107,13 @@ older_events =
     Sent 0 0 0 set ∷ Taken 0 (envelope 0 (Called 0 set)) ∷ Shown 0 (Called 0 set)
     ∷ Answered 0 (stored_by 1 0 (Called 0 set ∷ [])) ∷ Got 0 (stored_by 1 0 (Called 0 set ∷ [])) ∷ []
 
--- the same, and the look finds what stands: no rule is broken
+-- the same server answers before the face after the set is shown, which never is: so its worker's events are no turn
+unfoldable pub unshown_events : List Event
+unshown_events =
+    Sent 0 0 0 set ∷ Taken 0 (envelope 0 (Called 0 set)) ∷ Answered 0 (stored_by 1 0 (Called 0 set ∷ []))
+    ∷ Got 0 (stored_by 1 0 (Called 0 set ∷ [])) ∷ []
+
+-- after the events before these, a look that finds what stands: no rule is broken
 abbrev pub look_at_last : Event
 look_at_last = Looked 0 1 key (after_inputs 1 0 (Called 0 set ∷ []))
 
