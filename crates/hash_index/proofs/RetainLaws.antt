@@ -1,11 +1,11 @@
 -- What is left of entries once those went whose values weren't to stay.
 use Rattle.std.proofs.Common.{◌≡◌, ℕ, zero, suc, ◌+◌, ◌<◌, ◌≤◌, ◌*◌, max, Bool, true, false, cond, List, [], ◌∷◌, ◌++◌}
-use Rattle.std.proofs.Common.{length, take, drop, set, get_or, length-append, append-nil}
+use Rattle.std.proofs.Common.{length, take, drop, set, get_or, append-nil}
 use Rattle.std.proofs.Common.{Option, None, Some, refl, sym, ap, ◌∙◌, ⊎_elim, arith, subst}
-use Rattle.std.specs.Option.{IsSome, is_some, option_or}
+use Rattle.std.specs.Option.{IsSome, option_or}
 use Rattle.std.specs.List.{remove}
 use Rattle.std.specs.Map.Calls.{RetainsPairs}
-use Rattle.std.proofs.lemmas.Bool.{cases_Bool, cases_eq, cases_lt}
+use Rattle.std.proofs.lemmas.Bool.{cases_eq, cases_lt}
 use Rattle.std.proofs.lemmas.List.{get_or-set_same, get_or-set_other, get_or_past, get_or_read, length-set, take_all}
 use Rattle.std.proofs.lemmas.List.{drop_all}
 use Rattle.table.proofs.TreeKeyLaws.{tree_key_tie}
@@ -13,9 +13,8 @@ use Rattle.hash_index.specs.Places.{place_of}
 use Rattle.hash_index.specs.Entries.{value_at, AreApart}
 use Rattle.hash_index.specs.Tables.{joined, bucket_at, AreBuckets}
 use Rattle.hash_index.specs.Retained.{IsRetained, BecameOf, AreRetained}
-use Rattle.hash_index.proofs.EntryLaws.{same, value_at-append, not_both, AreApart-append, AreApart-left, AreApart-right}
-use Rattle.hash_index.proofs.EntryLaws.{AreApart-other}
-use Rattle.hash_index.proofs.SplitLaws.{value_at-joined, joined_apart, put_back}
+use Rattle.hash_index.proofs.EntryLaws.{same, value_at-append, not_both, AreApart-append, AreApart-right}
+use Rattle.hash_index.proofs.SplitLaws.{value_at-joined, put_back}
 use Rattle.hash_index.proofs.IndexLaws.{length-set_bucket, other_of}
 
 module _ {V : Type 0} (T : V → Bool → V → Type 0) where
@@ -90,9 +89,14 @@ module _ {V : Type 0} (T : V → Bool → V → Type 0) where
       → T x.1 true y.1 → (fs : List (List ℕ × V)) → IsRetained T (drop (suc i) (set now i y)) fs
       → IsRetained T (drop i now) (y ∷ fs)
   stayed [] i x y within is key t fs h = absurd (omega (arith, within))
-  stayed (e ∷ es) zero x y within is key t fs h =
-      (true, y.1, fs, subst (λ (z : List ℕ × V). T z.1 true y.1) is t, h,
-      ap (λ k. (k, y.1) ∷ fs) (key ∙ ap (λ (z : List ℕ × V). z.0) is))
+  stayed (e ∷ es) zero x y within is key t fs h = (
+    true,
+    y.1,
+    fs,
+    subst (λ (z : List ℕ × V). T z.1 true y.1) is t,
+    h,
+    ap (λ k. (k, y.1) ∷ fs) (key ∙ ap (λ (z : List ℕ × V). z.0) is),
+  )
   stayed (e ∷ es) (suc i) x y within is key t fs h = stayed es i x y (omega (arith, within)) is key t fs h
 
   stayed_front : (now : List (List ℕ × V)) (i : ℕ) (y : List ℕ × V) → i < length now → (fs : List (List ℕ × V))
@@ -207,9 +211,9 @@ module _ {V : Type 0} (T : V → Bool → V → Type 0) where
     all_done past count j =
         ⊎_elim (λ below. done j below)
         (λ over.
-          let old : bucket_at bs j ≡ [] = get_or_past bs j [] (omega (arith, over, past)) in
-          let new : bucket_at now j ≡ [] = get_or_past now j [] (omega (arith, over, past, count)) in
-          subst (λ x. IsRetained T x (bucket_at now j)) (sym old) new)
+        let old : bucket_at bs j ≡ [] = get_or_past bs j [] (omega (arith, over, past)) in
+        let new : bucket_at now j ≡ [] = get_or_past now j [] (omega (arith, over, past, count)) in
+        subst (λ x. IsRetained T x (bucket_at now j)) (sym old) new)
         (cases_lt j i)
 
   -- ---- all buckets

@@ -17,8 +17,14 @@ invariant_of-self g c =
     record {
       apart = both-apart g.R.Retain.outcome xs ys zs ws c.self.invariant.apart c.retain-gone.ensures.apart
           c.retain-gone.ensures.kept c.retain-rest.ensures.kept;
-      counted = omega (arith, old, new, c.retain-gone.ensures.gone, c.retain-rest.ensures.gone,
-          c.self.invariant.counted);
+      counted = omega (
+        arith,
+        old,
+        new,
+        c.retain-gone.ensures.gone,
+        c.retain-rest.ensures.gone,
+        c.self.invariant.counted,
+      );
     }
 
 pub returns : goal.returns
