@@ -129,8 +129,8 @@ impl<V: Drop> Bucket<V> {
         before - self.slots.len()
     }
 
-    // The entries that go to the new bucket, once there is one more than these; the others stay, all in order. Refused
-    // if memory is out.
+    // The entries that go to the new bucket, once there is one more than these; the others stay, all in order. Neither
+    // bucket keeps room for more. Refused if memory is out.
     pub(crate) fn split(&mut self, half: usize, count: usize) -> Result<Bucket<V>, AllocError>
         requires power { IsPower half }
         requires small { half < 2 ^ 62 }
@@ -143,6 +143,7 @@ impl<V: Drop> Bucket<V> {
         let room = room_for(self.slots.as_slice(), half, count);
         let mut slots = Vec::with_capacity(alloc, room)?;
         part(&mut self.slots, &mut slots, half, count);
+        self.slots.shrink_to_fit();
         Ok(Bucket { slots })
     }
 }
