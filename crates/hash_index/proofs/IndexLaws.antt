@@ -1,12 +1,15 @@
 -- Two lists of entries together, as one of them changes.
 use Rattle.std.proofs.Common.{◌≡◌, ℕ, zero, suc, ◌+◌, ◌-◌, ◌<◌, Bool, true, false, cond, List, [], ◌∷◌, ◌++◌, length}
-use Rattle.std.proofs.Common.{set, take, get_or, length-append}
+use Rattle.std.proofs.Common.{set, take, get_or, length-append, append-nil, append_assoc}
 use Rattle.std.proofs.Common.{Option, None, Some, refl, sym, ap, ◌∙◌, ⊎_elim, arith, subst}
 use Rattle.std.specs.Option.{IsSome, is_some, option_or}
 use Rattle.std.specs.Prelude.{Result, Ok, Err, OnOk, OnErr}
-use Rattle.std.proofs.lemmas.List.{get_or_read, length-take-le, length-set}
+use Rattle.std.proofs.lemmas.List.{get_or_read, length-take-le, length-set, take_more}
 use Rattle.std.proofs.lemmas.Bool.{cases_Bool, cond-true, cond-false}
-use Rattle.table.proofs.TreeKeyLaws.{tree_key_tie, tree_key_itself}
+use Rattle.std.specs.Cmp.Lexicographic.{nat_list_cmp_total}
+use Rattle.std.specs.FinMap.{len, from_entries, len-insert, len-empty}
+use Rattle.table.specs.Keys.{key_cmp}
+use Rattle.table.proofs.TreeKeyLaws.{tree_key_tie, tree_key_itself, get_tree_key}
 use Rattle.hash_index.specs.Entries.{value_at, AreApart}
 use Rattle.hash_index.specs.Tables.{joined, bucket_at, HasNow, SameValues}
 use Rattle.hash_index.proofs.EntryLaws.{same, same_turned, value_at-append, value_at-left_none, some_or, none_or_some}
@@ -201,3 +204,34 @@ module _ {V : Type 0} where
       length-set_bucket bs (n - 1) b1 within in
       let here : length (bucket_at bs (n - 1)) ≡ length b = ap (λ es. length es) (sym is) in
       omega (arith, filled)
+
+  -- ---- what an index's owner needs
+
+  cond_twice : (b : Bool) (v w o : Option V) → cond b w (cond b v o) ≡ cond b w o
+  cond_twice true v w o = refl
+  cond_twice false v w o = refl
+
+  -- a value that is put in the place of another, and taken out again, leaves nothing
+  pub has_again : (es fs gs : List (List ℕ × V)) (k : List ℕ) (v w : Option V) → HasNow k v es fs → HasNow k w fs gs
+      → HasNow k w es gs
+  has_again es fs gs k v w h g q =
+      g q ∙ ap (cond (same k q) w) (h q) ∙ cond_twice (same k q) v w (value_at es q)
+
+  joined_end : (bs : List (List (List ℕ × V))) (b : List (List ℕ × V)) → joined (bs ++ b ∷ []) ≡ joined bs ++ b
+  joined_end [] b = append-nil b
+  joined_end (c ∷ cs) b = ap (λ es. c ++ es) (joined_end cs b) ∙ sym (append_assoc c (joined cs) b)
+
+  -- a walk over the buckets has met one more
+  pub walked_more : (bs : List (List (List ℕ × V))) (i : ℕ) → i < length bs
+      → joined (take (i + 1) bs) ≡ joined (take i bs) ++ bucket_at bs i
+  walked_more bs i within = ap joined (take_more bs i [] within) ∙ joined_end (take i bs) (bucket_at bs i)
+
+  -- the map of entries has as many keys as there are entries
+  pub map_len : (es : List (List ℕ × V)) → AreApart es → len (from_entries {R = key_cmp} es) ≡ length es
+  map_len [] a = len-empty key_cmp V
+  map_len (e ∷ es) a =
+      len-insert nat_list_cmp_total (from_entries es) e.0 e.1
+      ∙ ap (λ (o : Option V). cond (is_some o) (len (from_entries {R = key_cmp} es))
+      (len (from_entries {R = key_cmp} es) + 1)) (get_tree_key es e.0 ∙ a.0)
+      ∙ (let rest = map_len es a.1 in
+      let more : len (from_entries {R = key_cmp} es) + 1 ≡ length (e ∷ es) = omega (arith, rest) in more)

@@ -3,3 +3,4 @@ pub mod EntryLaws
 pub mod SplitLaws
 pub mod RowLaws
 pub mod IndexLaws
+pub mod RetainLaws

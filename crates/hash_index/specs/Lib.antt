@@ -3,3 +3,4 @@ pub mod Rows
 pub mod Entries
 pub mod Tables
 pub mod Indexes
+pub mod Retained

@@ -6,8 +6,10 @@ ghost use Rattle.std.specs.List.{filter, remove};
 ghost use Rattle.std.specs.Vec.{vec_len, vec_capacity};
 ghost use Rattle.hash_index.specs.Places.{IsPower};
 ghost use Rattle.hash_index.specs.Entries.{key_in, value_at, HasValueAt, with_value, staying, going};
+ghost use Rattle.hash_index.specs.Retained.{IsRetained};
 
 use crate::places::goes;
+use crate::retains::Retain;
 use std::alloc::{AllocError, AllocFailed, Global};
 use std::marker::Model;
 use std::mem;
@@ -117,8 +119,18 @@ impl<V: Drop> Bucket<V> {
         self.slots.pop();
     }
 
-    // The entries that go to the new bucket, once there is one more than these; the others stay, all in order. Refused
-    // if memory is out.
+    // Takes the entries away whose values aren't to stay. How many those are.
+    pub(crate) fn retain<R: Retain<V>>(&mut self) -> usize
+        ensures kept { IsRetained R.outcome self.old self.new }
+        ensures gone { result + length self.new ≡ length self.old }
+    {
+        let before = self.slots.len();
+        retain::<V, R>(&mut self.slots);
+        before - self.slots.len()
+    }
+
+    // The entries that go to the new bucket, once there is one more than these; the others stay, all in order. Neither
+    // bucket keeps room for more. Refused if memory is out.
     pub(crate) fn split(&mut self, half: usize, count: usize) -> Result<Bucket<V>, AllocError>
         requires power { IsPower half }
         requires small { half < 2 ^ 62 }
@@ -131,6 +143,7 @@ impl<V: Drop> Bucket<V> {
         let room = room_for(self.slots.as_slice(), half, count);
         let mut slots = Vec::with_capacity(alloc, room)?;
         part(&mut self.slots, &mut slots, half, count);
+        self.slots.shrink_to_fit();
         Ok(Bucket { slots })
     }
 }
@@ -146,6 +159,29 @@ fn find<V>(slots: &[(TreeKey, V)], key: &TreeKey) -> Option<usize>
         }
     }
     None
+}
+
+// Takes the slots away whose values aren't to stay.
+fn retain<V: Drop, R: Retain<V>>(slots: &mut Vec<(TreeKey, V)>)
+    ensures kept { IsRetained R.outcome slots.old.items slots.new.items }
+    ensures fewer { length slots.new.items ≤ length slots.old.items }
+{
+    let mut i = 0;
+    while i < slots.len() {
+        if stays::<V, R>(&mut slots[i]) {
+            i += 1;
+        } else {
+            slots.remove(i);
+        }
+    }
+}
+
+// Whether a slot's value is to stay, after what is made of it.
+fn stays<V: Drop, R: Retain<V>>(slot: &mut (TreeKey, V)) -> bool
+    ensures key { slot.new.0 ≡ slot.old.0 }
+    ensures outcome { R.outcome slot.old.1 result slot.new.1 }
+{
+    R::stays(&mut slot.1)
 }
 
 // Room for the slots that go.

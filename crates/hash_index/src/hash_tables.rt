@@ -1,12 +1,14 @@
 //! Buckets by linear hashing: one more at a time, as entries come.
 ghost use Rattle.std.specs.Prelude.{◌≡◌, ◌<◌, length, ℕ, List, Some, None, IfOk, IfErr, IfSome, IfNone, IsSome, OnOk};
 ghost use Rattle.std.specs.Prelude.{OnErr};
-ghost use Rattle.std.specs.Prelude.{[], ◌≤◌, ◌*◌, ◌^◌, nat_eq, if◌then◌else◌};
+ghost use Rattle.std.specs.Prelude.{[], ◌≤◌, ◌+◌, ◌*◌, ◌^◌, nat_eq, if◌then◌else◌};
 ghost use Rattle.hash_index.specs.Entries.{value_at, value_in, key_in, HasValueAt, AreApart};
 ghost use Rattle.hash_index.specs.Tables.{joined, bucket_at, HasNow, SameValues};
+ghost use Rattle.hash_index.specs.Retained.{IsRetained, AreRetained};
 
 use crate::buckets::Bucket;
 use crate::places::place_of;
+use crate::retains::Retain;
 use crate::rows::Rows;
 use std::alloc::{AllocError, AllocFailed, Global};
 use std::marker::Model;
@@ -101,6 +103,16 @@ impl<V: Drop> HashTable<V> {
         let old = slots.remove(slot);
         drop(self.rows.swap(bucket, slots));
         old
+    }
+
+    // Takes the entries away whose values aren't to stay. How many those are.
+    pub(crate) fn retain<R: Retain<V>>(&mut self) -> usize
+        requires { length (joined self.old) < 2 ^ 64 }
+        ensures kept { AreRetained R.outcome (joined self.old) (joined self.new) }
+        ensures gone { result + length (joined self.new) ≡ length (joined self.old) }
+        ensures apart { AreApart (joined self.new) }
+    {
+        retain_rows::<V, R>(self.alloc, &mut self.rows)
     }
 
     // How many buckets there are.
@@ -217,4 +229,33 @@ fn next_half(half: usize, count: usize) -> usize
     ensures few { count < 2 * result }
 {
     if count == 2 * half { 2 * half } else { half }
+}
+
+// Takes the entries away whose values aren't to stay, bucket by bucket. How many those are.
+fn retain_rows<V: Drop, R: Retain<V>>(alloc: Global, rows: &mut Rows<Bucket<V>>) -> usize
+    requires { length (joined rows.old) < 2 ^ 64 }
+    ensures count { length rows.new ≡ length rows.old }
+    ensures each { (j : ℕ) → IsRetained R.outcome (bucket_at rows.old j) (bucket_at rows.new j) }
+    ensures gone { result + length (joined rows.new) ≡ length (joined rows.old) }
+{
+    let count = rows.len();
+    let mut gone = 0;
+    for i in 0..count {
+        gone += retain_at::<V, R>(alloc, rows, i);
+    }
+    gone
+}
+
+// Takes the entries of a bucket away whose values aren't to stay. How many those are.
+fn retain_at<V: Drop, R: Retain<V>>(alloc: Global, rows: &mut Rows<Bucket<V>>, i: usize) -> usize
+    requires { i < length rows.old }
+    ensures count { length rows.new ≡ length rows.old }
+    ensures this { IsRetained R.outcome (bucket_at rows.old i) (bucket_at rows.new i) }
+    ensures others { (j : ℕ) → (j ≡ i → ⊥) → bucket_at rows.new j ≡ bucket_at rows.old j }
+    ensures gone { result + length (joined rows.new) ≡ length (joined rows.old) }
+{
+    let mut slots = rows.swap(i, Bucket::new(alloc));
+    let gone = slots.retain::<R>();
+    drop(rows.swap(i, slots));
+    gone
 }

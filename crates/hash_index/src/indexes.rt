@@ -11,10 +11,12 @@ ghost use Rattle.std.specs.Prelude.{◌++◌};
 ghost use Rattle.hash_index.specs.Entries.{value_at, AreApart};
 ghost use Rattle.hash_index.specs.Tables.{joined, bucket_at, HasNow};
 ghost use Rattle.hash_index.specs.Indexes.{entries, found_at, HasAt, IsPlaceOf};
+ghost use Rattle.hash_index.specs.Retained.{HasRetained};
 
 use crate::hash_tables::HashTable;
 use crate::places::Place;
 use crate::remains::Remains;
+use crate::retains::Retain;
 use crate::trees;
 use std::alloc::{AllocFailed, Global};
 use std::collections::BTreeMap;
@@ -142,6 +144,17 @@ impl<V: Drop> Index<V> {
         };
         self.len -= 1;
         Some(value)
+    }
+
+    /// Takes the entries away whose values aren't to stay, and makes of the others what `R` makes of them. It allocates
+    /// nothing. Time is linear in the number of entries and buckets.
+    pub fn retain<R: Retain<V>>(&mut self)
+        ensures { HasRetained R.outcome self.old self.new }
+    {
+        let gone = self.table.retain::<R>();
+        let rest = trees::retain::<V, R>(&mut self.more);
+        self.len -= gone;
+        self.len -= rest;
     }
 
     /// How many buckets there are: with `bucket` and `rest`, for a walk over all entries.

@@ -1,8 +1,10 @@
 //! The tree of the entries whose bucket was full.
-ghost use Rattle.std.specs.Prelude.{◌≡◌, Some, None, IfErr, IsSome, OnOk, OnErr};
+ghost use Rattle.std.specs.Prelude.{◌≡◌, ◌+◌, length, Some, None, IfErr, IsSome, OnOk, OnErr};
 ghost use Rattle.hash_index.specs.Entries.{value_at, AreApart};
 ghost use Rattle.hash_index.specs.Tables.{HasNow};
+ghost use Rattle.hash_index.specs.Retained.{IsRetained};
 
+use crate::retains::Retain;
 use std::alloc::AllocFailed;
 use std::collections::BTreeMap;
 use std::mem;
@@ -41,4 +43,14 @@ pub(crate) fn add<V: Drop>(
             Err(AllocFailed { value })
         }
     }
+}
+
+/// Takes the entries away whose values aren't to stay. How many those are.
+pub(crate) fn retain<V: Drop, R: Retain<V>>(tree: &mut BTreeMap<TreeKey, V>) -> usize
+    ensures kept { IsRetained R.outcome tree.old.entries tree.new.entries }
+    ensures gone { result + length tree.new.entries ≡ length tree.old.entries }
+{
+    let before = tree.len();
+    tree.retain(|_, value| R::stays(value));
+    before - tree.len()
 }
