@@ -1,0 +1,10 @@
+pub mod Loop
+pub mod Appends
+pub mod Spelled
+pub mod Formats
+pub mod Choices
+pub mod Fields
+pub mod Orders
+pub mod Reports
+pub mod Servers
+pub mod WholeMessages

@@ -1,0 +1,3 @@
+pub mod Spellings
+pub mod ServerParts
+pub mod Readings
