@@ -1,6 +1,6 @@
 -- Values of several kinds: the first number says which.
-use Rattle.std.proofs.Common.{◌≡◌, ◌⊎◌, ℕ, Bool, true, false, cond, eqb, List, [], ◌∷◌, ◌++◌, Option, Some, None}
-use Rattle.std.proofs.Common.{refl, sym, ap, subst, ◌∙◌, inl, inr}
+use Rattle.std.proofs.Common.{◌≡◌, ◌⊎◌, ℕ, Bool, true, false, cond, eqb, List, ◌∷◌, ◌++◌, Some, None}
+use Rattle.std.proofs.Common.{refl, ap, subst, ◌∙◌, inl, inr}
 use Rattle.std.proofs.lemmas.Bool.{eqb-true}
 use Rattle.control_messages.specs.Spellings.{AreNumbers, alone, spelled}
 use Rattle.control_messages.specs.Readings.{Read, ◌>>=◌, number_at, made_at}

@@ -1,18 +1,17 @@
 -- Numbers by themselves.
-use Rattle.std.proofs.Common.{◌≡◌, ℕ, zero, suc, ◌+◌, ◌^◌, ◌<◌, ◌≤◌, Bool, true, false, cond, ltb, eqb, List, [], ◌∷◌}
-use Rattle.std.proofs.Common.{◌++◌, length, get_or, take, drop, Option, Some, None, refl, sym, ap, subst, ◌∙◌, arith}
+use Rattle.std.proofs.Common.{◌≡◌, ℕ, zero, suc, ◌^◌, ◌<◌, ◌≤◌, Bool, true, false, cond, ltb, eqb, List, [], ◌∷◌}
+use Rattle.std.proofs.Common.{◌++◌, length, take, drop, Option, Some, None, refl, sym, ap, subst, ◌∙◌, arith}
 use Rattle.std.proofs.Common.{inl, inr}
-use Rattle.std.specs.Int.{w64, from_be_bytes, to_be_bytes}
+use Rattle.std.specs.Int.{w64, from_be_bytes}
 use Rattle.std.proofs.lemmas.Bool.{cases_lt, lt-ltb, ltb-true, ltb-false, le-ltb}
 use Rattle.std.proofs.lemmas.Option.{cond_some}
 use Rattle.std.proofs.lemmas.List.{take_at, drop_at, take-append-drop, length-append, length-take, get_or-take}
 use Rattle.std.proofs.lemmas.List.{get_or_past}
 use Rattle.std.proofs.lemmas.Nat.{be_bytes_8, from_be_bytes-to_be_bytes_8}
-use Rattle.successions.specs.declared.members.Members.{Members}
 use Rattle.control_messages.specs.Spellings.{AreNumbers, HasMembers, alone, eight_bytes, flag, optional, spelled}
 use Rattle.control_messages.specs.Readings.{Read, ◌>>=◌, number_at, narrow_at, flag_at, flag_of_at, optional_at}
-use Rattle.control_messages.specs.Readings.{optional_of_at, several_at, members_at, made_at}
-use Rattle.control_messages.proofs.Spelled.{spelled_none, spelled_one, regrouped}
+use Rattle.control_messages.specs.Readings.{optional_of_at, several_at, members_at}
+use Rattle.control_messages.proofs.Spelled.{spelled_none, spelled_one}
 use Rattle.control_messages.proofs.Formats.{IsBytes, IsBytes-drop, IsFormat, Takes, Takes-none, Takes-then, Takes-as}
 use Rattle.control_messages.proofs.Formats.{bind_some, bind_at, some_is, nothing, made, made_again}
 use Rattle.control_messages.proofs.Choices.{IsNumber, guard_some, chosen, picked, tag_again}

@@ -9,9 +9,9 @@ use Rattle.successions.specs.declared.orders.Report.{Report}
 use Rattle.seals.specs.declared.markers.Numbers.{Numbers}
 use Rattle.seals.specs.declared.markers.Marker.{Marker}
 use Rattle.control_messages.specs.Spellings.{AreNumbers, HasMembers, HasMarkerWidths, HasPhaseWidths, HasStandingWidths}
-use Rattle.control_messages.specs.Spellings.{acceptance_numbers, alone, flag, marker_numbers, phase_numbers}
+use Rattle.control_messages.specs.Spellings.{acceptance_numbers, alone, marker_numbers, phase_numbers}
 use Rattle.control_messages.specs.Spellings.{report_numbers, spelled, standing_numbers}
-use Rattle.control_messages.specs.Readings.{◌>>=◌, both_at, number_at, narrow_at, flag_at, members_at, acceptance_at}
+use Rattle.control_messages.specs.Readings.{number_at, acceptance_at}
 use Rattle.control_messages.specs.Readings.{phase_at, phase_of_at, standing_at, report_at, progress_at, marker_at}
 use Rattle.control_messages.proofs.Spelled.{spelled_none}
 use Rattle.control_messages.proofs.Formats.{IsFormat, Takes, bind_some, both, made, made_again, nothing}

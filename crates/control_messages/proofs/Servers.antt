@@ -1,5 +1,5 @@
 -- What a server says of itself.
-use Rattle.std.proofs.Common.{◌≡◌, ℕ, ◌<◌, ◌^◌, List, [], ◌∷◌, ◌++◌, Option, Some, None, refl}
+use Rattle.std.proofs.Common.{ℕ, ◌^◌, List, Option, Some, None, refl}
 use Rattle.chain_status.specs.declared.reports.Calls.{Calls}
 use Rattle.chain_status.specs.declared.reports.Inbox.{Inbox}
 use Rattle.chain_status.specs.declared.reports.LeaseState.{LeaseState}

@@ -1,5 +1,5 @@
 -- Messages: what is read was spelled, and what was spelled is read.
-use Rattle.std.proofs.Common.{◌≡◌, ℕ, Bool, true, false, cond, eqb, List, [], ◌∷◌, ◌++◌, length, Option, Some, None}
+use Rattle.std.proofs.Common.{◌≡◌, ℕ, cond, eqb, List, [], ◌++◌, length, Option, Some, None}
 use Rattle.std.proofs.Common.{refl, sym, ap, subst, ◌∙◌, inl, inr}
 use Rattle.std.specs.Prelude.{IfSome}
 use Rattle.std.proofs.lemmas.Bool.{eqb-true}
@@ -18,11 +18,11 @@ use Rattle.control_messages.specs.Spellings.{server_numbers, spelled}
 use Rattle.control_messages.specs.Readings.{◌>>=◌, Gives, Read, number_at, order_at, report_at, marker_at, server_at}
 use Rattle.control_messages.specs.Readings.{made_at, message_at, message_in, of_kind_at}
 use Rattle.control_messages.proofs.Spelled.{spelled_none}
-use Rattle.control_messages.proofs.Formats.{IsBytes, IsFormat, Takes, Takes-as, bind_some, bind_at, made_again, nothing}
+use Rattle.control_messages.proofs.Formats.{IsBytes, Takes, bind_some, bind_at, made_again, nothing}
 use Rattle.control_messages.proofs.Formats.{some_is}
 use Rattle.control_messages.proofs.Choices.{chosen, picked, tag_again}
 use Rattle.control_messages.proofs.Fields.{number}
-use Rattle.control_messages.proofs.Orders.{kind_of, order_again, order_takes, said_of}
+use Rattle.control_messages.proofs.Orders.{order_again, order_takes, said_of}
 use Rattle.control_messages.proofs.Reports.{Reported, marker, report}
 use Rattle.control_messages.proofs.Servers.{server}
 

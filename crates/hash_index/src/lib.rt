@@ -20,8 +20,8 @@
 //! **What is proved.** Each call says what it makes of what keys have (`found_at` of `specs/Indexes.antt`): `get`,
 //! `insert` and `remove` do as a map does, whatever was split on the way. No two entries have one key, and `len` is how
 //! many there are. A refused `insert` leaves the entries as they were and gives the value back. After `retain` each key
-//! has what became of its value (`specs/Retained.antt`). `buckets`, `bucket` and `rest` show each entry once, in an order
-//! that no clause says.
+//! has what became of its value (`specs/Retained.antt`). `buckets`, `bucket` and `rest` show each entry once, in an
+//! order that no clause says.
 //!
 //! **What isn't.** How long a call takes, how full buckets are, when one is split, and that few entries come to the
 //! tree.

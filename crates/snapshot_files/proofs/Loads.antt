@@ -1,5 +1,5 @@
 -- Bytes that have come, the rows in them, and what is wrong with them.
-use Rattle.std.proofs.Common.{◌≡◌, ◌⊎◌, ℕ, ◌<◌, Bool, true, List, [], ◌∷◌, ◌++◌, length, refl, ap, sym, subst, ◌∙◌}
+use Rattle.std.proofs.Common.{◌≡◌, ℕ, Bool, true, List, [], ◌∷◌, ◌++◌, length, refl, ap, sym, subst, ◌∙◌}
 use Rattle.std.proofs.Common.{inl, inr, arith, append_assoc, append-nil, Err, IfErr, IfNone, IfSome, IsErr}
 use Rattle.std.proofs.Common.{IsErrAnd, None, Ok, Option, Result, Some}
 use Rattle.ends.proofs.Written.{written-then}

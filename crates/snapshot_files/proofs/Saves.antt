@@ -4,13 +4,11 @@ use Rattle.std.proofs.Common.{◌∙◌, arith, append_assoc, append-nil, length
 use Rattle.std.proofs.Common.{Err, Ok, OnErr, OnOk, Result, get_or}
 use Rattle.std.proofs.lemmas.List.{take_all, take_more}
 use Rattle.std.proofs.lemmas.List.Concat.{flat_map-append}
-use Rattle.std.specs.List.{flat_map}
 use Rattle.ends.specs.Ends.{WritesBeginning}
 use Rattle.ends.proofs.Written.{begun-first, begun-then, written-then}
-use Rattle.snapshots.specs.declared.marks.TableMark.{TableMark}
 use Rattle.snapshots.specs.Sums.{sum_of}
 use Rattle.snapshots.specs.Rows.{IsRow, Row, row_spelling, rows_spelling}
-use Rattle.snapshots.specs.Snapshots.{IsSnapshot, begun_with, counts, ending, head, last_of, spelled_snapshot, sum_in}
+use Rattle.snapshots.specs.Snapshots.{IsSnapshot, begun_with, counts, ending, head, spelled_snapshot, sum_in}
 use Rattle.snapshots.specs.Progress.{Progress, opened, with_row}
 use Rattle.snapshots.specs.Histories.{HasPassed}
 use Rattle.snapshots.proofs.Passing.{passed_none, passed_row, passed_whole}

@@ -1,11 +1,10 @@
 -- What is loaded, and what is told of bytes that aren't a snapshot.
 use Rattle.std.specs.Prelude.{◌≡◌, ◌⊎◌, ℕ, ◌+◌, Bool, true, List, ◌++◌, length}
 use Rattle.snapshots.specs.declared.faults.Flaw.{Flaw}
-use Rattle.snapshots.specs.declared.marks.TableMark.{TableMark}
 use Rattle.snapshots.specs.Rows.{Row}
-use Rattle.snapshots.specs.Snapshots.{IsSnapshot, Snapshot, spelled_snapshot, sum_in}
+use Rattle.snapshots.specs.Snapshots.{IsSnapshot, Snapshot, spelled_snapshot}
 use Rattle.snapshots.specs.Readings.{HasEndFlaw, HasFlaw, Reading, Waits, past_head, place_of}
-use Rattle.snapshots.specs.Histories.{AreRead, HasRead}
+use Rattle.snapshots.specs.Histories.{HasRead}
 use Rattle.snapshot_files.specs.declared.faults.LoadFault.{LoadFault}
 use Rattle.snapshot_files.specs.declared.faults.LoadFault.TheVariants.{Memory, Unreadable, Flawed}
 

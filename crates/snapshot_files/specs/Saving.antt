@@ -1,5 +1,5 @@
 -- Rows that are saved: what goes to a sink, what is said of it, and why it is refused.
-use Rattle.std.specs.Prelude.{◌≡◌, ◌⊎◌, ℕ, ◌+◌, ◌<◌, ◌≤◌, List, [], ◌∷◌, ◌++◌, length}
+use Rattle.std.specs.Prelude.{◌≡◌, ℕ, ◌+◌, ◌<◌, ◌≤◌, List, ◌∷◌, ◌++◌, length}
 use Rattle.table.specs.Items.{limit}
 use Rattle.snapshots.specs.declared.faults.PutFault.{PutFault}
 use Rattle.snapshots.specs.declared.faults.PutFault.TheVariants as puts

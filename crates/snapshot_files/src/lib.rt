@@ -32,7 +32,7 @@
 //! **What isn't.** What the system makes of calls on files is outside of any contract: that `PATH` is left or replaced,
 //! that a sync keeps it, and that what is read is what was written, is tested (but for the sync). The sum finds files
 //! that broke by chance, and proves nothing more. A read or write that a signal interrupts counts as failed. Out of
-//! memory may be said anywhere. A saved file has the permissions of a new one, by the process's umask, and is its owner's.
+//! memory may be said anywhere. A saved file has the permissions of a new one, by the process's umask.
 #![tactic(auto)]
 
 mod faults;
