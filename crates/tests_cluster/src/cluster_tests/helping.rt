@@ -59,11 +59,7 @@ fn helped_chain<
         + Send
         + 'static,
 >(rt: R, alloc: Global) -> Option<HelpedChain> {
-    let shares = SeatShares {
-        threads: 1,
-        deal: SeatDeal::InTurn,
-    };
-    let (loop_handles, polls) = open_loop_handles(&rt, alloc, shares).ok()?;
+    let (loop_handles, polls) = open_loop_handles(&rt, alloc, shares_of_one()).ok()?;
     let loop_handles = Arc::new(alloc, loop_handles).ok()?;
     let (scheduler, all_server_parts) = three_parts(rt, alloc, &loop_handles)?;
     let scheduler = Arc::new(alloc, scheduler).ok()?;
@@ -85,6 +81,14 @@ fn helped_chain<
     )
     .ok()?;
     Some(HelpedChain { ports, front_end })
+}
+
+/// The seats of a server with one thread.
+pub fn shares_of_one() -> SeatShares {
+    SeatShares {
+        threads: 1,
+        deal: SeatDeal::InTurn,
+    }
 }
 
 /// The scheduler of the workers of three servers, and what each server has beside its worker.

@@ -1,7 +1,7 @@
 //! A chain of three whose servers are visited by hand, without threads: no message is left lying.
 ghost use Rattle.faces.specs.Histories.{IsLater};
 
-use super::helping::three_parts;
+use super::helping::{shares_of_one, three_parts};
 use craq_cluster::ServerParts;
 use craq_process::Scheduler;
 use in_process_links::{InProcessLinks, ServerSet};
@@ -39,7 +39,7 @@ fn all_pass<R: Wait + Threads + Net + Copy + Drop>(
     alloc: Global,
     most: usize,
 ) -> Option<bool> {
-    let (loop_handles, polls) = open_loop_handles(&rt, alloc, 1).ok()?;
+    let (loop_handles, polls) = open_loop_handles(&rt, alloc, shares_of_one()).ok()?;
     let loop_handles = Arc::new(alloc, loop_handles).ok()?;
     let (scheduler, mut all_server_parts) = three_parts(rt, alloc, &loop_handles)?;
     let passed = each_passes(&rt, alloc, &scheduler, &mut all_server_parts, most);
