@@ -1,6 +1,7 @@
 -- A chain that serves connections whose calls take any free port: its moves, and what clients get of it. A seat is the
 -- place of a connection here; its call takes a port of its server, and keeps it until the reply is taken.
-use Rattle.std.specs.Prelude.{◌≡◌, ℕ, zero, suc, ◌<◌, Bool, true, false, not, ◌&&◌, ◌==◌, List, [], ◌∷◌, length, take, map}
+use Rattle.std.specs.Prelude.{◌≡◌, ℕ, zero, suc, ◌<◌, Bool, true, false, not, ◌&&◌, ◌==◌, List, [], ◌∷◌, length, take}
+use Rattle.std.specs.Prelude.{map}
 use Rattle.std.specs.Prelude.{None, Some, is_some, slice_get, IsSome, if◌then◌else◌}
 use Rattle.table.specs.Histories.{IsLegal}
 use Rattle.table.specs.declared.operations.Reply.{Reply}
@@ -25,8 +26,8 @@ pub record PooledServing : Type 0 where
 pub data PooledMove : Type 0 where
   -- a move of the chain that serves
   Serves : (move : ServingMove) → PooledMove
-  -- the reply that stands in the queue of seat c, whose connection has ended, is collected: nobody gets it, and the port
-  -- of its call is free
+  -- the reply that stands in the queue of seat c, whose connection has ended, is collected: nobody gets it, and the
+  -- port of its call is free
   Collects : (c : ℕ) → PooledMove
 
 -- seat c holds this port of server i: it is at i, and its call from there is open, and not collected

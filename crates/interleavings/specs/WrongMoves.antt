@@ -7,7 +7,8 @@ use Rattle.node.specs.Servers.{opening}
 use Rattle.node.specs.Steps.{step}
 use Rattle.interleavings.specs.Chains.{RunningServer, Seat, Chain, with_running, with_channel, Sender, first_of}
 use Rattle.interleavings.specs.Chains.{without_first_of}
-use Rattle.interleavings.specs.Moves.{Sends, Takes, Publishes, Arrives, Replies, Looks, Notices, is_free, looked, brought}
+use Rattle.interleavings.specs.Moves.{Sends, Takes, Publishes, Arrives, Replies, Looks, Notices, is_free, looked}
+use Rattle.interleavings.specs.Moves.{brought}
 use Rattle.interleavings.specs.Moves.{done}
 use Rattle.interleavings.specs.OtherMoves.{Doing}
 use Rattle.interleavings.specs.OwnPorts.{sent_from, replying_from}

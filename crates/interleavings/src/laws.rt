@@ -23,7 +23,8 @@ ghost use Rattle.interleavings.specs.Served.{unrefused, NoneRefused, IsServed, S
 ghost use Rattle.interleavings.specs.Served.{IsServedInTurn, NoneUnanswered, AllHaveAll, CallName, reply_got};
 ghost use Rattle.interleavings.specs.Served.{is_call_published};
 ghost use Rattle.interleavings.specs.Pools.{PooledMove, pooled, IsOneOrderPooled, IsServedInTurnPooled};
-ghost use Rattle.interleavings.specs.Pools.{IsServingQuiet, NoneOpen, ServedHaveAll};
+ghost use Rattle.interleavings.specs.PortQueues.{queued, IsWithSeatQueues};
+ghost use Rattle.interleavings.specs.Pools.{opening_pooled, pooled_from, IsServingQuiet, NoneOpen, ServedHaveAll};
 ghost use Rattle.interleavings.specs.Rows.{PartName, AreWhole, IsRow, IsPublishedInTurn};
 ghost use Rattle.interleavings.specs.Rows.{IsRowServed, IsRowInTurn};
 ghost use Rattle.interleavings.specs.Senders.{Senders, HaveOneSender, AreTakenInOrder};
@@ -77,8 +78,8 @@ pub fn seats_may_have_own_ports()
         → port_at homes c i < seats_at homes i }
 {}
 
-/// Calls may have any free port: whichever port each call of a seat is sent from, if no call from there awaits its reply
-/// at that server.
+/// Calls may have any free port: whichever port each call of a seat is sent from, if no call from there awaits its
+/// reply at that server.
 pub fn calls_may_have_any_free_port()
     // Every run has an order of its calls, in which updates of a server stand in turn.
     ensures order { (count : ℕ) (homes : List ℕ) (ports : Ports) (moves : List Move)
@@ -109,8 +110,8 @@ pub fn served_seats_may_have_own_ports()
         → IsServed ((served (with_own_ports homes) count homes moves).connections c n) }
 {}
 
-/// Seats that serve connections may send each call from any free port, and a port is free again once its reply is taken:
-/// by its connection, or for nobody if that has ended.
+/// Seats that serve connections may send each call from any free port, and a port is free again once its reply is
+/// taken: by its connection, or for nobody if that has ended.
 pub fn served_calls_may_have_any_free_port()
     // There is one order of the calls of all connections, in which updates of a server stand in turn, and so do the
     // calls of a connection.
@@ -148,6 +149,16 @@ pub fn served_calls_may_have_any_free_port()
         → length moves < 2 ^ 62
         → IsServingQuiet (pooled count homes ports moves)
         → ServedHaveAll (pooled count homes ports moves) }
+{}
+
+/// Queues of ports do for those of seats: if a reply stands in the queue of the port for which it was put, as in the
+/// code, some run with queues of seats, of as many moves, shows the same after each of them, and the reply that stands
+/// first in a port's queue is the one of the seat that holds the port.
+pub fn ports_may_have_queues()
+    ensures { (count : ℕ) (homes : List ℕ) (ports : Ports) (moves : List PooledMove)
+        → (others : List PooledMove) × (length others ≡ length moves)
+        × ((k : ℕ) → IsWithSeatQueues ports (queued count homes ports (take k moves))
+        (pooled_from homes ports (opening_pooled count homes) (take k others))) }
 {}
 
 /// Each call that clients can ask is spelled by some bytes, as the one call of a request.

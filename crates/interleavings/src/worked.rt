@@ -17,6 +17,8 @@ ghost use Rattle.interleavings.specs.FreePorts.{with_free_ports};
 ghost use Rattle.interleavings.specs.Pools.{pooled};
 ghost use Rattle.interleavings.specs.WorkedPorts.{shared_homes, port_zero, flush, set_has_port, port_moves};
 ghost use Rattle.interleavings.specs.WorkedPorts.{taken_moves, old_moves, waiting_moves, collected_moves};
+ghost use Rattle.interleavings.specs.WorkedPorts.{queued_moves};
+ghost use Rattle.interleavings.specs.PortQueues.{queued};
 ghost use Rattle.interleavings.specs.WorkedRuns.{key, set, other_set, item, set_homes, set_moves};
 ghost use Rattle.interleavings.specs.WorkedRuns.{left_to_do};
 ghost use Rattle.interleavings.specs.WorkedRuns.{failover_homes, look_while_dirty, failover_moves};
@@ -156,7 +158,8 @@ pub fn two_senders_may_overtake()
 /// Two seats of one server choose the same port. The second one's flush isn't sent while the first one's set is open
 /// there; it is once the set's reply was put, and each seat gets its own reply.
 pub fn port_is_used_again()
-    ensures waits { begun_call (moved_by (with_free_ports shared_homes port_zero) 1 shared_homes set_has_port) (name 1 0)
+    ensures waits { begun_call (moved_by (with_free_ports shared_homes port_zero) 1 shared_homes set_has_port)
+        (name 1 0)
         ≡ None }
     ensures first { reply_to (moved_by (with_free_ports shared_homes port_zero) 1 shared_homes port_moves) (name 0 0)
         ≡ Some Stored }
@@ -174,6 +177,15 @@ pub fn collected_port_is_used_again()
     ensures written { ((pooled 1 shared_homes port_zero collected_moves).connections 1 0).written ≡ codes "OK\r\n" }
     // The set's reply went to nobody.
     ensures lost { ((pooled 1 shared_homes port_zero collected_moves).connections 0 0).replies ≡ [] }
+{}
+
+/// The same with queues of ports: the set's reply stands in the queue of the port until it is collected, and then the
+/// flush's reply comes into that queue and goes to its connection.
+pub fn port_queue_is_used_again()
+    ensures waits { (queued 1 shared_homes port_zero waiting_moves).queues 0 0 ≡ Stored ∷ [] }
+    ensures written { ((queued 1 shared_homes port_zero queued_moves).pooled.serving.connections 1 0).written
+        ≡ codes "OK\r\n" }
+    ensures empty { (queued 1 shared_homes port_zero queued_moves).queues 0 0 ≡ [] }
 {}
 
 /// If a call may be sent from a port at which another one is open, a run has no order.

@@ -1,5 +1,6 @@
 -- Two sets of one client, by one sender, and by two.
-use Rattle.std.proofs.Common.{◌≡◌, ℕ, zero, suc, true, false, take, Option, None, Some, refl, subst, sym, ap, arith, ◌∙◌}
+use Rattle.std.proofs.Common.{◌≡◌, ℕ, zero, suc, true, false, take, Option, None, Some, refl, subst, sym, ap, arith}
+use Rattle.std.proofs.Common.{◌∙◌}
 use Rattle.std.proofs.Common.{lit<}
 use Rattle.std.specs.Prelude.{slice_get, IsSome}
 use Rattle.std.proofs.lemmas.Option.{same_Some}

@@ -71,7 +71,8 @@ module _ (n : ℕ) (homes : List ℕ) (ports : Ports) where
         (λ p. refl)
 
     -- a seat that takes a reply had no port any more
-    received_holds : (c : ℕ) (rs : List Reply) → (l.seats c).queued ≡ rs → Holds n ports names (received l c (l.seats c) rs)
+    received_holds : (c : ℕ) (rs : List Reply) → (l.seats c).queued ≡ rs → Holds n ports names (received l c
+        (l.seats c) rs)
     received_holds c [] e = h
     received_holds c (reply ∷ more) e =
         let k = l.seats c in
@@ -323,7 +324,8 @@ module _ (n : ℕ) (homes : List ℕ) (ports : Ports) where
       move = Notices i j;
       names = names;
       same = notices_same n homes l g s i j;
-      holds = either (has_stopped l j) (brought l i (Gone j)) l (holds_brought n ports names l h i (Gone j) (λ p. refl)) h;
+      holds = either (has_stopped l j) (brought l i (Gone j)) l (holds_brought n ports names l h i (Gone j)
+          (λ p. refl)) h;
       asked = λ a. tt;
       servers = λ e. refl;
     }

@@ -153,7 +153,12 @@ free_is_not ports l i p (suc m) c free below home awaits port =
     let both = and_parts (not (has_port ports l i p m)) (is_free_port ports l i p m) free in
     elim (cases_eq c m) [
       | inl last ↦
-          let has : has_port ports l i p c ≡ true = rw (eq-eqb (l.seats c).home i home, awaits, eq-eqb (port_now ports l c) p port) refl in
+          let has : has_port ports l i p c ≡ true = rw (
+            eq-eqb (l.seats c).home i home,
+            awaits,
+            eq-eqb
+                (port_now ports l c) p port,
+          ) refl in
           both_ways _ (ap (has_port ports l i p) last ∙ not-true (has_port ports l i p m) both.0) has
       | inr other ↦ free_is_not ports l i p m c both.1 (omega (arith, below, other)) home awaits port
     ]

@@ -11,10 +11,13 @@ use Rattle.interleavings.specs.Moves.{done}
 use Rattle.interleavings.specs.FreePorts.{Ports}
 use Rattle.interleavings.specs.Connections.{Connection, waits, may_have}
 use Rattle.interleavings.specs.ServingMoves.{ServingChain, ServingMove, served_at, opening_serving, served}
-use Rattle.interleavings.specs.Served.{IsServed, IsRested, HasAll, CallName, call_made, reply_got, ServedCall, ComesBefore}
+use Rattle.interleavings.specs.Served.{IsServed, IsRested, HasAll, CallName, call_made, reply_got, ServedCall}
+use Rattle.interleavings.specs.Served.{ComesBefore}
 use Rattle.interleavings.specs.Served.{IsOneOrder, id_at_seat, is_call_published, PublishedFirst}
-use Rattle.interleavings.specs.Pools.{opening_pooled, PooledMove, pooled, ComesBeforePooled, IsOneOrderPooled, is_call_published_at}
-use Rattle.interleavings.specs.Pools.{PublishedFirstPooled, IsServedInTurnPooled, IsServingQuiet, NoneOpen, ServedHaveAll}
+use Rattle.interleavings.specs.Pools.{opening_pooled, PooledMove, pooled, ComesBeforePooled, IsOneOrderPooled}
+use Rattle.interleavings.specs.Pools.{is_call_published_at}
+use Rattle.interleavings.specs.Pools.{PublishedFirstPooled, IsServedInTurnPooled, IsServingQuiet, NoneOpen}
+use Rattle.interleavings.specs.Pools.{ServedHaveAll}
 use Rattle.interleavings.proofs.ports.FreePortRuns.{published_same, nothing_there, on_there}
 use Rattle.interleavings.proofs.served.Kinds.{first_fits}
 use Rattle.interleavings.proofs.served.OneOrder.{each_is_served, one_order, answered_there, has_all_there}
@@ -44,7 +47,8 @@ module _ (n : ℕ) (homes : List ℕ) (ports : Ports) (moves : List PooledMove) 
       let same = (there.stands p.k).connections in
       record {
         k = p.k;
-        answered = subst (λ (f : ℕ → ℕ → Connection). IsSome (slice_get (f x.seat x.number).replies x.ordinal)) (sym same)
+        answered = subst (λ (f : ℕ → ℕ → Connection). IsSome (slice_get (f x.seat x.number).replies x.ordinal))
+            (sym same)
             p.answered;
         not_made = ap (λ (f : ℕ → ℕ → Connection). slice_get (f y.seat y.number).calls y.ordinal) same ∙ p.not_made;
       }

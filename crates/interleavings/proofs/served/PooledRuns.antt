@@ -1,7 +1,8 @@
 -- A chain that serves connections whose calls take free ports, and the one with the seats' numbers as ports, which
 -- serves the same connections.
 use Rattle.std.proofs.Common.{◌≡◌, ◌≢◌, ℕ, zero, suc, ◌+◌, Bool, true, false, cond, List, [], ◌∷◌, ◌++◌}
-use Rattle.std.proofs.Common.{length, take, Option, None, Some, refl, arith, ap, sym, ◌∙◌, subst, inl, inr, length-append}
+use Rattle.std.proofs.Common.{length, take, Option, None, Some, refl, arith, ap, sym, ◌∙◌, subst, inl, inr}
+use Rattle.std.proofs.Common.{length-append}
 use Rattle.std.specs.Prelude.{◌&&◌, not, ◌==◌}
 use Rattle.std.proofs.lemmas.Bool.{cases_eq, cases_Bool, both_ways, and_parts, le-ltb, ltb-true, ltb-false}
 use Rattle.std.proofs.lemmas.Bool.{ne_eqb, not-true}
@@ -16,7 +17,8 @@ use Rattle.node.specs.Faces.{face_of, look_at}
 use Rattle.proto.specs.Turns.{is_store}
 use Rattle.interleavings.specs.Chains.{Seat, Chain, with_at, with_seat, messages_to, replies_to}
 use Rattle.interleavings.specs.Moves.{Move, Sends, Takes, Publishes, Puts, Arrives, Replies, Receives, Looks, Stops}
-use Rattle.interleavings.specs.Moves.{Notices, is_free, read_of, brought, received, looked, put, arrived, has_stopped, done}
+use Rattle.interleavings.specs.Moves.{Notices, is_free, read_of, brought, received, looked, put, arrived, has_stopped}
+use Rattle.interleavings.specs.Moves.{done}
 use Rattle.interleavings.specs.OwnPorts.{reply_put_from}
 use Rattle.interleavings.specs.FreePorts.{Ports, port_now, awaits_reply, has_port, is_free_port, with_free_ports}
 use Rattle.interleavings.specs.Connections.{Connection, made, answered, refused, waits, may_have}
@@ -100,7 +102,8 @@ module _ (homes : List ℕ) (ports : Ports) (l : Chain) (d : ℕ) (before : awai
   sends_still c call other =
       let s : Seat = record (l.seats c) { calls = (l.seats c).calls ++ call ∷ [] } in
       let x = brought (with_seat l c s) (l.seats c).home _ in
-      either (is_free_port ports l (l.seats c).home (port_now ports l c) (length homes)) (cond (is_free (l.seats c)) x l) l
+      either (is_free_port ports l (l.seats c).home (port_now ports l c) (length homes)) (cond (is_free
+      (l.seats c)) x l) l
       (either (is_free (l.seats c)) x l (ap awaits_reply (at_other l.seats c s d other) ∙ before) before) before
 
   -- a reply that is taken,
@@ -141,7 +144,7 @@ module _ (homes : List ℕ) (ports : Ports) (l : Chain) (d : ℕ) (before : awai
 -- ---- the two chains
 
 -- no seat holds the port that awaits a reply there, if none holds it at all
-none_awaits : (ports : Ports) (s : PooledServing) (i p m : ℕ)
+pub none_awaits : (ports : Ports) (s : PooledServing) (i p m : ℕ)
     → ((c : ℕ) → s.collected c ≡ true → awaits_reply (s.serving.chain.seats c) ≡ false)
     → none_holds ports s i p m ≡ true
     → is_free_port ports s.serving.chain i p m ≡ true
@@ -181,9 +184,9 @@ module _ (n : ℕ) (homes : List ℕ) (ports : Ports) where
     pub put : (c : ℕ) → s.collected c ≡ true → awaits_reply (s.serving.chain.seats c) ≡ false
 
   -- some move makes of u what stands for s
-  record Goes (s : PooledServing) (u : ServingChain) : Type 0 where
-    move : ServingMove
-    same : SamePooled s (served_by done u move)
+  pub record Goes (s : PooledServing) (u : ServingChain) : Type 0 where
+    pub move : ServingMove
+    pub same : SamePooled s (served_by done u move)
 
   module _ (s : PooledServing) (g : Chain) (a : Alike n homes ports s.serving.chain g)
       (put : (c : ℕ) → s.collected c ≡ true → awaits_reply (s.serving.chain.seats c) ≡ false) where
@@ -283,7 +286,8 @@ module _ (n : ℕ) (homes : List ℕ) (ports : Ports) where
         → SamePooled (with_serving (peeking own s.serving c key)) (peeking done other c key)
     peeks_same c None = still
     peeks_same c (Some key) =
-        subst (λ r. SamePooled (with_serving (peeked own s.serving c key (look_reply l c key))) (peeked done other c key r))
+        subst (λ r. SamePooled (with_serving (peeked own s.serving c key (look_reply l c key)))
+        (peeked done other c key r))
         (sym (look_alike n homes l g a.same c key)) (peeked_same c key (look_reply l c key))
 
     refuses_same : (c : ℕ) (due : Option Call)
@@ -338,7 +342,8 @@ module _ (n : ℕ) (homes : List ℕ) (ports : Ports) where
     serving_goes (Answers c) = record {
       move = Answers c;
       same = subst (λ (ss : ℕ → Seat).
-          SamePooled (with_serving (answering own s.serving c (l.seats c).queued)) (answering done other c (ss c).queued))
+          SamePooled (with_serving (answering own s.serving c (l.seats c).queued)) (answering done other c
+          (ss c).queued))
           (sym a.same.seats) (answers_same c (l.seats c).queued);
     }
     serving_goes (Writes c k) = record { move = Writes c k; same = serves c _ }
@@ -392,6 +397,12 @@ module _ (n : ℕ) (homes : List ℕ) (ports : Ports) where
       ap (λ (e : ℕ → ℕ). record { chain = u.chain; ended = e; connections = s.serving.connections }) (sym h.ended)
       ∙ ap (λ f. record { chain = u.chain; ended = u.ended; connections = f }) (sym h.connections)
 
+  -- each move has one
+  pub goes_on : (m : PooledMove) (s : PooledServing) (u : ServingChain)
+      → SamePooled s u
+      → Goes (pooled_by homes ports s m) u
+  goes_on m s u h = subst (Goes (pooled_by homes ports s m)) (is_other s u h) (goes s u.chain h.chains h.put m)
+
   behind : (ms : List PooledMove) (s : PooledServing) (u : ServingChain) → SamePooled s u → Behind s u ms
   behind [] s u h = record { moves = []; long = refl; stands = none_left; ends = h }
     where
@@ -399,8 +410,7 @@ module _ (n : ℕ) (homes : List ℕ) (ports : Ports) where
       none_left zero = h
       none_left (suc k) = h
   behind (m ∷ ms) s u h =
-      let f : Goes (pooled_by homes ports s m) u =
-      subst (Goes (pooled_by homes ports s m)) (is_other s u h) (goes s u.chain h.chains h.put m) in
+      let f = goes_on m s u h in
       let b = behind ms (pooled_by homes ports s m) (served_by done u f.move) f.same in
       record {
         moves = f.move ∷ b.moves;
@@ -418,13 +428,15 @@ module _ (n : ℕ) (homes : List ℕ) (ports : Ports) where
       first_then o os stands zero = h
       first_then o os stands (suc k) = stands k
 
+  -- both are so at the start
+  pub opening_same : SamePooled (opening_pooled n homes) (opening_serving n homes)
+  opening_same = record {
+    chains = opening_alike n homes ports;
+    ended = refl;
+    connections = refl;
+    put = λ c e. absurd (let no : false ≡ true = e in cc);
+  }
+
   -- the moves of a run
   pub followed : (moves : List PooledMove) → Behind (opening_pooled n homes) (opening_serving n homes) moves
-  followed moves =
-      behind moves (opening_pooled n homes) (opening_serving n homes)
-      (record {
-        chains = opening_alike n homes ports;
-        ended = refl;
-        connections = refl;
-        put = λ c e. absurd (let no : false ≡ true = e in cc);
-      })
+  followed moves = behind moves (opening_pooled n homes) (opening_serving n homes) opening_same
