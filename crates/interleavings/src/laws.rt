@@ -27,7 +27,8 @@ ghost use Rattle.interleavings.specs.PortQueues.{queued, IsWithSeatQueues};
 ghost use Rattle.interleavings.specs.Pools.{opening_pooled, pooled_from, IsServingQuiet, NoneOpen, ServedHaveAll};
 ghost use Rattle.interleavings.specs.Rows.{PartName, AreWhole, IsRow, IsPublishedInTurn};
 ghost use Rattle.interleavings.specs.Rows.{IsRowServed, IsRowInTurn};
-ghost use Rattle.interleavings.specs.Senders.{Senders, HaveOneSender, AreTakenInOrder};
+ghost use Rattle.interleavings.specs.Senders.{Senders, HaveOneSender, AreTakenInOrder, PortSenders, AreOfSenders};
+ghost use Rattle.interleavings.specs.Senders.{AreTakenInPortOrder};
 ghost use Rattle.world.specs.Orders.{OrderedCall};
 
 /// Every run of moves of a chain of up to 16 servers, with servers that stop at any move, has an order of its calls in
@@ -279,4 +280,35 @@ pub fn rows_are_published_in_turn()
         → (h : List ServedCall) × IsOneOrder done count homes moves h
         × IsServedInTurn done (λ c. c) count homes moves h
         × IsRowInTurn (λ c. c) (served done count homes moves) row h }
+{}
+
+/// The same of a chain whose calls take free ports, if each sender's calls are taken in the order in which they were
+/// sent, by the ports from which they come. A row of it is one of a run with the seats' numbers as ports, which shows
+/// the same connections after each move.
+pub fn calls_from_ports_stay_in_order()
+    // In that run each sender's calls are taken in order, by their seats.
+    ensures in_order { (port_senders : PortSenders) (senders : Senders) (count : ℕ) (homes : List ℕ) (ports : Ports)
+        (moves : List PooledMove)
+        → AreOfSenders port_senders senders ports homes
+        → AreTakenInPortOrder port_senders ports count homes moves
+        → (others : List ServingMove) × (length others ≡ length moves)
+        × ((k : ℕ) → (served done count homes (take k others)).connections
+        ≡ (pooled count homes ports (take k moves)).connections)
+        × AreTakenInOrder senders count homes others }
+    // So there is, for each row whose seats send by one sender, one order of all calls in which the row's stand in
+    // turn.
+    ensures order { (port_senders : PortSenders) (senders : Senders) (count : ℕ) (homes : List ℕ) (ports : Ports)
+        (moves : List PooledMove)
+        → count ≤ 16
+        → AreOfSenders port_senders senders ports homes
+        → AreTakenInPortOrder port_senders ports count homes moves
+        → (others : List ServingMove) × (length others ≡ length moves)
+        × ((k : ℕ) → (served done count homes (take k others)).connections
+        ≡ (pooled count homes ports (take k moves)).connections)
+        × ((row : List PartName)
+        → IsRow done count homes others row
+        → HaveOneSender senders row
+        → (h : List ServedCall) × IsOneOrderPooled ports count homes moves h
+        × IsServedInTurnPooled ports count homes moves h
+        × IsRowInTurn (λ c. c) (served done count homes others) row h) }
 {}

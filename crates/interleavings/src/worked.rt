@@ -32,7 +32,8 @@ ghost use Rattle.interleavings.specs.Rows.{IsRow, IsPublishedInTurn, IsRowInTurn
 ghost use Rattle.interleavings.specs.Rows.{row_calls, row_replies, row_written};
 ghost use Rattle.interleavings.specs.WorkedRows.{first_bytes, second_bytes, two_parts, pipelined_moves};
 ghost use Rattle.interleavings.specs.WorkedRows.{first_call, second_call, overtaken_moves, one_sender, two_senders};
-ghost use Rattle.interleavings.specs.Senders.{HaveOneSender, AreTakenInOrder};
+ghost use Rattle.interleavings.specs.Senders.{HaveOneSender, AreTakenInOrder, AreOfSenders, AreTakenInPortOrder};
+ghost use Rattle.interleavings.specs.WorkedRows.{own_number, one_port_sender, pooled_moves};
 ghost use Rattle.interleavings.specs.WorkedServing.{talk_homes, talk_moves, last_moves, lost_moves, delete};
 ghost use Rattle.interleavings.specs.WorkedServing.{refused_moves, turn_moves, first_set, second_set};
 
@@ -146,6 +147,13 @@ pub fn one_sender_keeps_the_order()
     ensures one { HaveOneSender one_sender two_parts }
     ensures in_order { AreTakenInOrder one_sender 1 flight_homes pipelined_moves }
     ensures overtaken { AreTakenInOrder one_sender 1 flight_homes overtaken_moves → ⊥ }
+{}
+
+/// The two sets of one client go from two ports of one sender, and are taken in the order in which they were sent.
+pub fn ports_of_one_sender_keep_the_order()
+    ensures senders { AreOfSenders one_port_sender one_sender own_number flight_homes }
+    ensures in_order { AreTakenInPortOrder one_port_sender own_number 1 flight_homes pooled_moves }
+    ensures calls { ((pooled 1 flight_homes own_number pooled_moves).connections 1 0).calls ≡ other_set ∷ [] }
 {}
 
 /// If the two sets go by two senders, each sender's calls may be taken in order, and the sets not published in turn.
