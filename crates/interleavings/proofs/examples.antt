@@ -21,3 +21,4 @@ pub mod Starts
 pub mod HandedOver
 pub mod UsedPorts
 pub mod SentSets
+pub mod CollectedReply

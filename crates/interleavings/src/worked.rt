@@ -14,7 +14,7 @@ ghost use Rattle.interleavings.specs.OtherMoves.{moved_by, IsLinearizationBy, Ha
 ghost use Rattle.interleavings.specs.WrongMoves.{with_older_looks, with_early_puts, with_early_notices};
 ghost use Rattle.interleavings.specs.WrongMoves.{with_lossy_channels, with_taken_ports, with_old_holders};
 ghost use Rattle.interleavings.specs.FreePorts.{with_free_ports};
-ghost use Rattle.interleavings.specs.Pools.{pooled};
+ghost use Rattle.interleavings.specs.Pools.{pooled, IsServingQuiet};
 ghost use Rattle.interleavings.specs.WorkedPorts.{shared_homes, port_zero, flush, set_has_port, port_moves};
 ghost use Rattle.interleavings.specs.WorkedPorts.{taken_moves, old_moves, waiting_moves, collected_moves};
 ghost use Rattle.interleavings.specs.WorkedPorts.{queued_moves};
@@ -185,6 +185,8 @@ pub fn collected_port_is_used_again()
     ensures written { ((pooled 1 shared_homes port_zero collected_moves).connections 1 0).written ≡ codes "OK\r\n" }
     // The set's reply went to nobody.
     ensures lost { ((pooled 1 shared_homes port_zero collected_moves).connections 0 0).replies ≡ [] }
+    // Nothing is left to do then.
+    ensures quiet { IsServingQuiet (pooled 1 shared_homes port_zero collected_moves) }
 {}
 
 /// The same with queues of ports: the set's reply stands in the queue of the port until it is collected, and then the
