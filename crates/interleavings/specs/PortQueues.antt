@@ -7,7 +7,7 @@ use Rattle.table.specs.declared.operations.Reply.{Reply}
 use Rattle.interleavings.specs.Chains.{Chain, with_at, with_running, with_seat, replies_to, without_reply}
 use Rattle.interleavings.specs.Moves.{Replies, is_free, done}
 use Rattle.interleavings.specs.OwnPorts.{sent_from}
-use Rattle.interleavings.specs.FreePorts.{Ports, port_now}
+use Rattle.interleavings.specs.FreePorts.{PortChoice, port_now}
 use Rattle.interleavings.specs.Connections.{made, answered, waits, may_have}
 use Rattle.interleavings.specs.ServingMoves.{ServingChain, ServingMove, Asks, Answers, Runs, served_at, with_served}
 use Rattle.interleavings.specs.ServingMoves.{served_by}
@@ -36,13 +36,13 @@ abbrev pub holds : QueuedServing → ℕ → Bool
 holds s c = not (is_free ((chain_of s).seats c)) && not (s.pooled.collected c)
 
 -- the queue of the port of seat c
-abbrev pub queue_of : Ports → QueuedServing → ℕ → List Reply
+abbrev pub queue_of : PortChoice → QueuedServing → ℕ → List Reply
 queue_of ports s c = s.queues ((chain_of s).seats c).home (port_now ports (chain_of s) c)
 
 -- ---- moves
 
 -- this call is to be made: it is sent from its port, if the seat waits for no reply
-abbrev pub asking_from : Ports → QueuedServing → ℕ → Option Call → QueuedServing
+abbrev pub asking_from : PortChoice → QueuedServing → ℕ → Option Call → QueuedServing
 asking_from ports s c None = s
 asking_from ports s c (Some call) =
     if is_free ((chain_of s).seats c)
@@ -58,7 +58,7 @@ asking_from ports s c (Some call) =
     else s
 
 -- the connection takes the first of these replies, which stand in the queue of its seat's port, if it waits for one
-abbrev pub answering_from : Ports → QueuedServing → ℕ → List Reply → QueuedServing
+abbrev pub answering_from : PortChoice → QueuedServing → ℕ → List Reply → QueuedServing
 answering_from ports s c [] = s
 answering_from ports s c (reply ∷ more) =
     if waits (served_at s.pooled.serving c) && may_have (served_at s.pooled.serving c).session.asked reply
@@ -76,7 +76,7 @@ answering_from ports s c (reply ∷ more) =
 
 -- the first of these replies, which stand in the queue of the port of seat c, is collected, if its connection waits for
 -- none
-abbrev pub collecting_from : Ports → QueuedServing → ℕ → List Reply → QueuedServing
+abbrev pub collecting_from : PortChoice → QueuedServing → ℕ → List Reply → QueuedServing
 collecting_from ports s c [] = s
 collecting_from ports s c (reply ∷ more) =
     if waits (served_at s.pooled.serving c)
@@ -101,7 +101,7 @@ replying_to s i port (reply ∷ more) =
     }
 
 -- a move of the chain that serves; if it puts a reply, it is for a port
-abbrev pub serving_with : List ℕ → Ports → QueuedServing → ServingMove → QueuedServing
+abbrev pub serving_with : List ℕ → PortChoice → QueuedServing → ServingMove → QueuedServing
 serving_with homes ports s (Asks c) =
     if may_ask homes ports s.pooled c then asking_from ports s c (served_at s.pooled.serving c).due else s
 serving_with homes ports s (Answers c) = if holds s c then answering_from ports s c (queue_of ports s c) else s
@@ -112,12 +112,12 @@ serving_with homes ports s (Runs (Replies i port)) =
 serving_with homes ports s m = with_serving s (served_by done s.pooled.serving m)
 
 -- what a move does. One that doesn't apply has no effect.
-abbrev pub queued_by : List ℕ → Ports → QueuedServing → PooledMove → QueuedServing
+abbrev pub queued_by : List ℕ → PortChoice → QueuedServing → PooledMove → QueuedServing
 queued_by homes ports s (Serves m) = serving_with homes ports s m
 queued_by homes ports s (Collects c) = if holds s c then collecting_from ports s c (queue_of ports s c) else s
 
 -- the chain after these moves, one after another
-abbrev pub queued_from : List ℕ → Ports → QueuedServing → List PooledMove → QueuedServing
+abbrev pub queued_from : List ℕ → PortChoice → QueuedServing → List PooledMove → QueuedServing
 queued_from homes ports s [] = s
 queued_from homes ports s (m ∷ ms) = queued_from homes ports (queued_by homes ports s m) ms
 
@@ -126,13 +126,13 @@ abbrev pub opening_queued : ℕ → List ℕ → QueuedServing
 opening_queued count homes = record { pooled = opening_pooled count homes; queues = λ i port. [] }
 
 -- the chain after a run
-abbrev pub queued : ℕ → List ℕ → Ports → List PooledMove → QueuedServing
+abbrev pub queued : ℕ → List ℕ → PortChoice → List PooledMove → QueuedServing
 queued count homes ports moves = queued_from homes ports (opening_queued count homes) moves
 
 -- ---- the queues are those of the seats
 
 -- The chain t of `Pools.antt` is the chain s, with the queue of each port as that of the seat that holds the port:
-pub record IsWithSeatQueues (ports : Ports) (s : QueuedServing) (t : PooledServing) : Type 0 where
+pub record IsWithSeatQueues (ports : PortChoice) (s : QueuedServing) (t : PooledServing) : Type 0 where
   -- both serve the same connections,
   pub connections : t.serving.connections ≡ s.pooled.serving.connections
   pub ended : t.serving.ended ≡ s.pooled.serving.ended

@@ -8,7 +8,7 @@ use Rattle.interleavings.specs.Chains.{OfSeat, first_of}
 use Rattle.interleavings.specs.Moves.{Takes, done}
 use Rattle.interleavings.specs.ServingMoves.{ServingMove, Runs, served}
 use Rattle.interleavings.specs.Rows.{PartName, IsPart}
-use Rattle.interleavings.specs.FreePorts.{Ports}
+use Rattle.interleavings.specs.FreePorts.{PortChoice}
 use Rattle.interleavings.specs.Pools.{PooledMove, Serves, pooled}
 
 -- By which sender a seat sends its calls. Several seats may have one: in the code all seats of a thread's pool do.
@@ -44,13 +44,13 @@ abbrev pub PortSenders : Type 0
 PortSenders = (i port : ℕ) → ℕ
 
 -- each seat sends all its calls from ports of its sender
-abbrev pub AreOfSenders : PortSenders → Senders → Ports → List ℕ → Type 0
+abbrev pub AreOfSenders : PortSenders → Senders → PortChoice → List ℕ → Type 0
 AreOfSenders port_senders senders ports homes =
     (c ordinal i : ℕ) → slice_get homes c ≡ Some i → port_senders i (ports c ordinal) ≡ senders c
 
 -- Each sender's calls are taken in the order in which they were sent: if the move after some first k takes a call from
 -- an inbox, that is the first call there from a port of its sender.
-pub record AreTakenInPortOrder (port_senders : PortSenders) (ports : Ports) (count : ℕ) (homes : List ℕ)
+pub record AreTakenInPortOrder (port_senders : PortSenders) (ports : PortChoice) (count : ℕ) (homes : List ℕ)
     (moves : List PooledMove) : Type 0 where
   pub in_order : (k i port : ℕ)
       → slice_get moves k ≡ Some (Serves (Runs (Takes i (OfSeat port))))

@@ -6,7 +6,7 @@ use Rattle.table.specs.declared.operations.Op.TheVariants.{Flush}
 use Rattle.table.specs.declared.operations.Target.TheVariants.{All}
 use Rattle.interleavings.specs.Chains.{OfSeat}
 use Rattle.interleavings.specs.Moves.{Move, Sends, Takes, Publishes, Replies, Receives, read_of}
-use Rattle.interleavings.specs.FreePorts.{Ports}
+use Rattle.interleavings.specs.FreePorts.{PortChoice}
 use Rattle.interleavings.specs.WorkedRuns.{key, set}
 use Rattle.interleavings.specs.ServingMoves.{Reads, Begins, Asks, Answers, Writes, Ends, Runs}
 use Rattle.interleavings.specs.Pools.{PooledMove, Serves, Collects}
@@ -16,7 +16,7 @@ abbrev pub shared_homes : List ℕ
 shared_homes = 0 ∷ 0 ∷ []
 
 -- the port of each call
-abbrev pub port_zero : Ports
+abbrev pub port_zero : PortChoice
 port_zero c ordinal = 0
 
 -- a flush

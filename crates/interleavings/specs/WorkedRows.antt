@@ -5,7 +5,7 @@ use Rattle.interleavings.specs.Moves.{Takes, Publishes, Replies}
 use Rattle.interleavings.specs.ServingMoves.{ServingMove, Reads, Begins, Asks, Answers, Writes, Runs}
 use Rattle.interleavings.specs.Served.{CallName}
 use Rattle.interleavings.specs.Rows.{PartName}
-use Rattle.interleavings.specs.FreePorts.{Ports}
+use Rattle.interleavings.specs.FreePorts.{PortChoice}
 use Rattle.interleavings.specs.Pools.{PooledMove, Serves}
 use Rattle.interleavings.specs.Senders.{Senders, PortSenders}
 
@@ -73,7 +73,7 @@ two_senders c = c
 -- ---- The same run with free ports: each seat chooses the port of its own number.
 
 -- the port of each call
-abbrev pub own_number : Ports
+abbrev pub own_number : PortChoice
 own_number c ordinal = c
 
 -- both ports are of one sender

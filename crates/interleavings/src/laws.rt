@@ -15,7 +15,7 @@ ghost use Rattle.interleavings.specs.Orders.{IsLinearization, IsInTurn};
 ghost use Rattle.interleavings.specs.Quiet.{IsQuiet, NoneForgotten};
 ghost use Rattle.interleavings.specs.OtherMoves.{Doing, moved_by, IsLinearizationBy, IsInTurnBy};
 ghost use Rattle.interleavings.specs.OwnPorts.{seats_at, port_at, own_port, with_own_ports};
-ghost use Rattle.interleavings.specs.FreePorts.{Ports, with_free_ports, IsInTurnAt};
+ghost use Rattle.interleavings.specs.FreePorts.{PortChoice, with_free_ports, IsInTurnAt};
 ghost use Rattle.interleavings.specs.Ports.{input_at, renamed, renamed_result};
 ghost use Rattle.interleavings.specs.Connections.{waits, may_have};
 ghost use Rattle.interleavings.specs.ServingMoves.{ServingMove, served_at, served};
@@ -83,13 +83,13 @@ pub fn seats_may_have_own_ports()
 /// reply at that server.
 pub fn calls_may_have_any_free_port()
     // Every run has an order of its calls, in which updates of a server stand in turn.
-    ensures order { (count : ℕ) (homes : List ℕ) (ports : Ports) (moves : List Move)
+    ensures order { (count : ℕ) (homes : List ℕ) (ports : PortChoice) (moves : List Move)
         → count ≤ 16
         → AreAsked moves
         → (h : List OrderedCall) × IsLinearizationBy (with_free_ports homes ports) count homes moves h
         × IsInTurnAt ports count homes moves h }
     // If nothing is left to do, each call of a seat whose server goes on has its reply.
-    ensures none_forgotten { (count : ℕ) (homes : List ℕ) (ports : Ports) (moves : List Move)
+    ensures none_forgotten { (count : ℕ) (homes : List ℕ) (ports : PortChoice) (moves : List Move)
         → count ≤ 16
         → length moves < 2 ^ 62
         → AreAsked moves
@@ -116,16 +116,16 @@ pub fn served_seats_may_have_own_ports()
 pub fn served_calls_may_have_any_free_port()
     // There is one order of the calls of all connections, in which updates of a server stand in turn, and so do the
     // calls of a connection.
-    ensures order { (count : ℕ) (homes : List ℕ) (ports : Ports) (moves : List PooledMove)
+    ensures order { (count : ℕ) (homes : List ℕ) (ports : PortChoice) (moves : List PooledMove)
         → count ≤ 16
         → (h : List ServedCall) × IsOneOrderPooled ports count homes moves h
         × IsServedInTurnPooled ports count homes moves h }
     // Each connection makes the calls that its bytes spell, but for stores that are refused, and is written the texts
     // of its turns.
-    ensures bytes { (count : ℕ) (homes : List ℕ) (ports : Ports) (moves : List PooledMove) (c n : ℕ)
+    ensures bytes { (count : ℕ) (homes : List ℕ) (ports : PortChoice) (moves : List PooledMove) (c n : ℕ)
         → IsServed ((pooled count homes ports moves).connections c n) }
     // What stands first in a queue is a reply that the connection which waits for it can take.
-    ensures kinds { (count : ℕ) (homes : List ℕ) (ports : Ports) (moves : List PooledMove) (c : ℕ) (reply : Reply)
+    ensures kinds { (count : ℕ) (homes : List ℕ) (ports : PortChoice) (moves : List PooledMove) (c : ℕ) (reply : Reply)
         (more : List Reply)
         → count ≤ 16
         → ((pooled count homes ports moves).chain.seats c).queued ≡ reply ∷ more
@@ -133,19 +133,19 @@ pub fn served_calls_may_have_any_free_port()
         → may_have (served_at (pooled count homes ports moves) c).session.asked reply ≡ true }
     // Some run with the seats' numbers as ports, of as many moves, shows the same connections after each of them: so
     // what is said of connections alone, as that they are a row, holds of both.
-    ensures same { (count : ℕ) (homes : List ℕ) (ports : Ports) (moves : List PooledMove)
+    ensures same { (count : ℕ) (homes : List ℕ) (ports : PortChoice) (moves : List PooledMove)
         → (others : List ServingMove) × (length others ≡ length moves)
         × ((k : ℕ) → (served done count homes (take k others)).connections
         ≡ (pooled count homes ports (take k moves)).connections) }
     // If nothing is left to do, each call of a connection that hasn't ended has its reply, if its server goes on;
-    ensures answered { (count : ℕ) (homes : List ℕ) (ports : Ports) (moves : List PooledMove)
+    ensures answered { (count : ℕ) (homes : List ℕ) (ports : PortChoice) (moves : List PooledMove)
         → count ≤ 16
         → length moves < 2 ^ 62
         → IsServingQuiet (pooled count homes ports moves)
         → NoneOpen (pooled count homes ports moves) }
     // and if nothing is left to do at such a connection either, all its calls are answered or refused, and all is
     // written.
-    ensures all { (count : ℕ) (homes : List ℕ) (ports : Ports) (moves : List PooledMove)
+    ensures all { (count : ℕ) (homes : List ℕ) (ports : PortChoice) (moves : List PooledMove)
         → count ≤ 16
         → length moves < 2 ^ 62
         → IsServingQuiet (pooled count homes ports moves)
@@ -156,7 +156,7 @@ pub fn served_calls_may_have_any_free_port()
 /// code, some run with queues of seats, of as many moves, shows the same after each of them, and the reply that stands
 /// first in a port's queue is the one of the seat that holds the port.
 pub fn ports_may_have_queues()
-    ensures { (count : ℕ) (homes : List ℕ) (ports : Ports) (moves : List PooledMove)
+    ensures { (count : ℕ) (homes : List ℕ) (ports : PortChoice) (moves : List PooledMove)
         → (others : List PooledMove) × (length others ≡ length moves)
         × ((k : ℕ) → IsWithSeatQueues ports (queued count homes ports (take k moves))
         (pooled_from homes ports (opening_pooled count homes) (take k others))) }
@@ -287,8 +287,8 @@ pub fn rows_are_published_in_turn()
 /// the same connections after each move.
 pub fn calls_from_ports_stay_in_order()
     // In that run each sender's calls are taken in order, by their seats.
-    ensures in_order { (port_senders : PortSenders) (senders : Senders) (count : ℕ) (homes : List ℕ) (ports : Ports)
-        (moves : List PooledMove)
+    ensures in_order { (port_senders : PortSenders) (senders : Senders) (count : ℕ) (homes : List ℕ)
+        (ports : PortChoice) (moves : List PooledMove)
         → AreOfSenders port_senders senders ports homes
         → AreTakenInPortOrder port_senders ports count homes moves
         → (others : List ServingMove) × (length others ≡ length moves)
@@ -297,7 +297,7 @@ pub fn calls_from_ports_stay_in_order()
         × AreTakenInOrder senders count homes others }
     // So there is, for each row whose seats send by one sender, one order of all calls in which the row's stand in
     // turn.
-    ensures order { (port_senders : PortSenders) (senders : Senders) (count : ℕ) (homes : List ℕ) (ports : Ports)
+    ensures order { (port_senders : PortSenders) (senders : Senders) (count : ℕ) (homes : List ℕ) (ports : PortChoice)
         (moves : List PooledMove)
         → count ≤ 16
         → AreOfSenders port_senders senders ports homes

@@ -22,7 +22,7 @@ use Rattle.interleavings.specs.Moves.{publishing, put, arrived, has_stopped, don
 use Rattle.interleavings.specs.OwnPorts.{reply_put_from}
 use Rattle.interleavings.specs.ServingMoves.{is_of_seat}
 use Rattle.interleavings.specs.Chains.{Sender, OfSeat}
-use Rattle.interleavings.specs.FreePorts.{Ports, port_now, awaits_reply, is_free_port, with_free_ports}
+use Rattle.interleavings.specs.FreePorts.{PortChoice, port_now, awaits_reply, is_free_port, with_free_ports}
 use Rattle.interleavings.proofs.ports.FreePortReplies.{holds_replied}
 use Rattle.interleavings.proofs.ports.FreePortSends.{renaming, after_send, same_after, holds_after}
 use Rattle.interleavings.proofs.ports.OwnPortMoves.{receives_same, looks_same, takes_same, publishes_same, puts_same}
@@ -34,7 +34,7 @@ use Rattle.interleavings.proofs.ports.RenamedChains.{SameUnder, seat_there}
 use Rattle.interleavings.proofs.ports.RenamedServers.{sender_at}
 use Rattle.interleavings.proofs.ports.StandingPorts.{taking_standing, publishing_standing, message_standing}
 
-module _ (n : ℕ) (homes : List ℕ) (ports : Ports) where
+module _ (n : ℕ) (homes : List ℕ) (ports : PortChoice) where
   -- some move makes of g what stands, with some names, for the chain l; and it asks no other calls than the move m
   pub record Follows (m : Move) (l g : Chain) : Type 0 where
     pub move : Move

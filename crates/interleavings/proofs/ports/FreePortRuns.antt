@@ -23,7 +23,7 @@ use Rattle.interleavings.specs.Moves.{Move, done, has_stopped, moved_from, moved
 use Rattle.interleavings.specs.Orders.{begun_call, reply_to, waiting_calls, is_published, Precedes, PublishedBefore}
 use Rattle.interleavings.specs.Orders.{IsLinearization}
 use Rattle.interleavings.specs.OtherMoves.{moved_from_by, moved_by, PrecedesBy, IsLinearizationBy}
-use Rattle.interleavings.specs.FreePorts.{Ports, port_now, awaits_reply, with_free_ports, waiting_calls_at}
+use Rattle.interleavings.specs.FreePorts.{PortChoice, port_now, awaits_reply, with_free_ports, waiting_calls_at}
 use Rattle.interleavings.specs.FreePorts.{is_published_at, PublishedBeforeAt, IsInTurnAt}
 use Rattle.interleavings.specs.Pools.{HasNothingLeft}
 use Rattle.interleavings.specs.Ports.{input_at, output_to}
@@ -37,7 +37,7 @@ use Rattle.interleavings.proofs.quiet.Answering.{none_forgotten_there, nothing_l
 use Rattle.interleavings.proofs.relation.Following.{linearizable}
 use Rattle.interleavings.proofs.runs.Simulating.{simulates}
 
-module _ (n : ℕ) (homes : List ℕ) (ports : Ports) where
+module _ (n : ℕ) (homes : List ℕ) (ports : PortChoice) where
   abbrev Alike : Chain → Chain → Type 0
   Alike l g = Named n homes ports l g
 

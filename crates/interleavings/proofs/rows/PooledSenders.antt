@@ -11,7 +11,7 @@ use Rattle.table.specs.declared.operations.Call.{Call}
 use Rattle.interleavings.specs.Chains.{RunningServer, OfSeat, listed, calls_from, first_of}
 use Rattle.interleavings.specs.Moves.{Takes, done}
 use Rattle.interleavings.specs.Ports.{input_at}
-use Rattle.interleavings.specs.FreePorts.{Ports, port_now}
+use Rattle.interleavings.specs.FreePorts.{PortChoice, port_now}
 use Rattle.interleavings.specs.ServingMoves.{ServingMove, Runs, served}
 use Rattle.interleavings.specs.Pools.{PooledMove, pooled}
 use Rattle.interleavings.specs.Senders.{Senders, PortSenders, first_seat, AreTakenInOrder, AreOfSenders}
@@ -67,7 +67,7 @@ first_named f of_ports of_seats g (Called d call ∷ xs) h =
     omega (arith, one)))
     ∙ cond_under (option_map f) (of_ports d == g) (Some d) (first_seat of_ports g xs)
 
-module _ (port_senders : PortSenders) (senders : Senders) (n : ℕ) (homes : List ℕ) (ports : Ports)
+module _ (port_senders : PortSenders) (senders : Senders) (n : ℕ) (homes : List ℕ) (ports : PortChoice)
     (moves : List PooledMove) (of : AreOfSenders port_senders senders ports homes)
     (order : AreTakenInPortOrder port_senders ports n homes moves) where
   -- each call that is taken is the first of its sender

@@ -8,7 +8,7 @@ use Rattle.table.specs.declared.operations.Reply.{Reply}
 use Rattle.world.proofs.lists.Standing.{get_within, some_of}
 use Rattle.interleavings.specs.Chains.{Seat}
 use Rattle.interleavings.specs.Moves.{done}
-use Rattle.interleavings.specs.FreePorts.{Ports}
+use Rattle.interleavings.specs.FreePorts.{PortChoice}
 use Rattle.interleavings.specs.Connections.{Connection, waits, may_have}
 use Rattle.interleavings.specs.ServingMoves.{ServingChain, ServingMove, served_at, opening_serving, served}
 use Rattle.interleavings.specs.Served.{IsServed, IsRested, HasAll, CallName, call_made, reply_got, ServedCall}
@@ -24,7 +24,7 @@ use Rattle.interleavings.proofs.served.Kinds.{first_fits}
 use Rattle.interleavings.proofs.served.OneOrder.{each_is_served, one_order, answered_there, has_all_there}
 use Rattle.interleavings.proofs.served.PooledRuns.{Behind, followed}
 
-module _ (n : ℕ) (homes : List ℕ) (ports : Ports) (moves : List PooledMove) where
+module _ (n : ℕ) (homes : List ℕ) (ports : PortChoice) (moves : List PooledMove) where
   abbrev last : ServingChain
   last = pooled n homes ports moves
 

@@ -20,7 +20,7 @@ use Rattle.interleavings.specs.Moves.{Move, Sends, Takes, Publishes, Puts, Arriv
 use Rattle.interleavings.specs.Moves.{Notices, is_free, read_of, brought, received, looked, put, arrived, has_stopped}
 use Rattle.interleavings.specs.Moves.{done}
 use Rattle.interleavings.specs.OwnPorts.{reply_put_from}
-use Rattle.interleavings.specs.FreePorts.{Ports, port_now, awaits_reply, has_port, is_free_port, with_free_ports}
+use Rattle.interleavings.specs.FreePorts.{PortChoice, port_now, awaits_reply, has_port, is_free_port, with_free_ports}
 use Rattle.interleavings.specs.Connections.{Connection, made, answered, refused, waits, may_have}
 use Rattle.interleavings.specs.ServingMoves.{ServingChain, ServingMove, Reads, Begins, Asks, Peeks, Refuses, Answers}
 use Rattle.interleavings.specs.ServingMoves.{Writes, Ends, Runs, served_at, with_served, refusing, key_due, look_reply}
@@ -55,7 +55,7 @@ still_put s reply e =
     le-ltb (length s.got + length (s.queued ++ reply ∷ [])) (length s.calls)
     (omega (arith, least, length-append s.queued (reply ∷ [])))
 
-module _ (homes : List ℕ) (ports : Ports) (l : Chain) (d : ℕ) (before : awaits_reply (l.seats d) ≡ false) where
+module _ (homes : List ℕ) (ports : PortChoice) (l : Chain) (d : ℕ) (before : awaits_reply (l.seats d) ≡ false) where
   other_seat : (c : ℕ) (s : Seat)
       → (d ≡ c → awaits_reply s ≡ false)
       → awaits_reply (with_at l.seats c s d) ≡ false
@@ -172,7 +172,7 @@ inside_of m i c e = ap inner e
 -- ---- the two chains
 
 -- no seat holds the port that awaits a reply there, if none holds it at all
-pub none_awaits : (ports : Ports) (s : PooledServing) (i p m : ℕ)
+pub none_awaits : (ports : PortChoice) (s : PooledServing) (i p m : ℕ)
     → ((c : ℕ) → s.collected c ≡ true → awaits_reply (s.serving.chain.seats c) ≡ false)
     → none_holds ports s i p m ≡ true
     → is_free_port ports s.serving.chain i p m ≡ true
@@ -199,7 +199,7 @@ none_awaits ports s i p (suc m) quiet none =
         ] in
         rw (first.0, busy, kept, both.1) refl
 
-module _ (n : ℕ) (homes : List ℕ) (ports : Ports) where
+module _ (n : ℕ) (homes : List ℕ) (ports : PortChoice) where
   abbrev own : Chain → Move → Chain
   own = with_free_ports homes ports
 

@@ -23,7 +23,7 @@ use Rattle.interleavings.specs.Moves.{Move, Sends, Takes, Publishes, Puts, Arriv
 use Rattle.interleavings.specs.Moves.{Notices, is_free, read_of, brought, looked, put, arrived, has_stopped}
 use Rattle.interleavings.specs.Moves.{received, done}
 use Rattle.interleavings.specs.OwnPorts.{sent_from, reply_put_from, replying_from}
-use Rattle.interleavings.specs.FreePorts.{Ports, port_now, awaits_reply, with_free_ports}
+use Rattle.interleavings.specs.FreePorts.{PortChoice, port_now, awaits_reply, with_free_ports}
 use Rattle.proto.specs.Turns.{is_store}
 use Rattle.interleavings.specs.Connections.{made, answered, refused, waits, may_have}
 use Rattle.interleavings.specs.ServingMoves.{ServingChain, ServingMove, Reads, Begins, Asks, Peeks, Refuses, Answers}
@@ -59,7 +59,7 @@ queue_other qs i p rs j q away = elim (cases_eq j i) [
 abbrev holding : (ℕ → Seat) → (ℕ → Bool) → ℕ → Bool
 holding ss b c = not (is_free (ss c)) && not (b c)
 
-module _ (n : ℕ) (ports : Ports) where
+module _ (n : ℕ) (ports : PortChoice) where
   abbrev port_of : (ℕ → Seat) → ℕ → ℕ
   port_of ss c = ports c (length (ss c).got)
 
@@ -346,7 +346,7 @@ bare_at : (ss : ℕ → Seat) (c : ℕ) (s : Seat)
     → with_at (λ d. bare_seat (ss d)) c (bare_seat s) ≡ (λ d. bare_seat (with_at ss c s d))
 bare_at ss c s = sym (view_at bare_seat ss c s)
 
-module _ (n : ℕ) (homes : List ℕ) (ports : Ports) where
+module _ (n : ℕ) (homes : List ℕ) (ports : PortChoice) where
   abbrev own : Chain → Move → Chain
   own = with_free_ports homes ports
 
