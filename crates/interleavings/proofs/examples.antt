@@ -27,3 +27,4 @@ pub mod LateWrites
 pub mod LateMessages
 pub mod LapsedServer
 pub mod LapsedServing
+pub mod CollectedReply

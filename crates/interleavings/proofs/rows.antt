@@ -9,3 +9,4 @@ pub mod Answered
 pub mod SentInOrder
 pub mod PairsInOrder
 pub mod OneSender
+pub mod PooledSenders

@@ -17,3 +17,4 @@ pub mod Kinds
 pub mod OwnPortServing
 pub mod PooledRuns
 pub mod PooledOrders
+pub mod PortQueueRuns

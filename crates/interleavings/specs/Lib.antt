@@ -13,6 +13,7 @@ pub mod Connections
 pub mod ServingMoves
 pub mod Served
 pub mod Pools
+pub mod PortQueues
 pub mod Rows
 pub mod Senders
 pub mod Restored

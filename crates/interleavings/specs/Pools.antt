@@ -1,6 +1,7 @@
 -- A chain that serves connections whose calls take any free port: its moves, and what clients get of it. A seat is the
 -- place of a connection here; its call takes a port of its server, and keeps it until the reply is taken.
-use Rattle.std.specs.Prelude.{◌≡◌, ℕ, zero, suc, ◌<◌, Bool, true, false, not, ◌&&◌, ◌==◌, List, [], ◌∷◌, length, take, map}
+use Rattle.std.specs.Prelude.{◌≡◌, ℕ, zero, suc, ◌<◌, Bool, true, false, not, ◌&&◌, ◌==◌, List, [], ◌∷◌, length, take}
+use Rattle.std.specs.Prelude.{map}
 use Rattle.std.specs.Prelude.{None, Some, is_some, slice_get, IsSome, if◌then◌else◌}
 use Rattle.table.specs.Histories.{IsLegal}
 use Rattle.table.specs.declared.operations.Reply.{Reply}
@@ -8,7 +9,7 @@ use Rattle.node.specs.Views.{has}
 use Rattle.interleavings.specs.Chains.{Chain, with_at, messages_to, replies_to}
 use Rattle.interleavings.specs.Moves.{is_free, has_stopped}
 use Rattle.interleavings.specs.Quiet.{goes_on}
-use Rattle.interleavings.specs.FreePorts.{Ports, port_now, with_free_ports, is_published_at}
+use Rattle.interleavings.specs.FreePorts.{PortChoice, port_now, with_free_ports, is_published_at}
 use Rattle.interleavings.specs.Connections.{waits}
 use Rattle.interleavings.specs.ServingMoves.{ServingChain, ServingMove, Asks, served_at, opening_serving, served_by}
 use Rattle.interleavings.specs.Served.{IsRested, HasAll, CallName, call_made, reply_got, ServedCall, StandsThere}
@@ -25,28 +26,28 @@ pub record PooledServing : Type 0 where
 pub data PooledMove : Type 0 where
   -- a move of the chain that serves
   Serves : (move : ServingMove) → PooledMove
-  -- the reply that stands in the queue of seat c, whose connection has ended, is collected: nobody gets it, and the port
-  -- of its call is free
+  -- the reply that stands in the queue of seat c, whose connection has ended, is collected: nobody gets it, and the
+  -- port of its call is free
   Collects : (c : ℕ) → PooledMove
 
 -- seat c holds this port of server i: it is at i, and its call from there is open, and not collected
-abbrev pub holds_port : Ports → PooledServing → ℕ → ℕ → ℕ → Bool
+abbrev pub holds_port : PortChoice → PooledServing → ℕ → ℕ → ℕ → Bool
 holds_port ports s i port c =
     (s.serving.chain.seats c).home == i && not (is_free (s.serving.chain.seats c)) && not (s.collected c)
     && port_now ports s.serving.chain c == port
 
 -- none of the first n seats does
-abbrev pub none_holds : Ports → PooledServing → ℕ → ℕ → ℕ → Bool
+abbrev pub none_holds : PortChoice → PooledServing → ℕ → ℕ → ℕ → Bool
 none_holds ports s i port zero = true
 none_holds ports s i port (suc n) = not (holds_port ports s i port n) && none_holds ports s i port n
 
 -- the port that was chosen for the next call of seat c is free at its server
-abbrev pub may_ask : List ℕ → Ports → PooledServing → ℕ → Bool
+abbrev pub may_ask : List ℕ → PortChoice → PooledServing → ℕ → Bool
 may_ask homes ports s c =
     none_holds ports s (s.serving.chain.seats c).home (port_now ports s.serving.chain c) (length homes)
 
 -- a move of the chain that serves: a call is sent only from a free port
-abbrev pub serving_by : List ℕ → Ports → PooledServing → ServingMove → PooledServing
+abbrev pub serving_by : List ℕ → PortChoice → PooledServing → ServingMove → PooledServing
 serving_by homes ports s (Asks c) =
     if may_ask homes ports s c
     then record s {
@@ -63,12 +64,12 @@ collecting s c (reply ∷ more) =
     if waits (served_at s.serving c) then s else record s { collected = with_at s.collected c true }
 
 -- what a move does. One that doesn't apply has no effect.
-abbrev pub pooled_by : List ℕ → Ports → PooledServing → PooledMove → PooledServing
+abbrev pub pooled_by : List ℕ → PortChoice → PooledServing → PooledMove → PooledServing
 pooled_by homes ports s (Serves m) = serving_by homes ports s m
 pooled_by homes ports s (Collects c) = collecting s c (s.serving.chain.seats c).queued
 
 -- the chain after these moves, one after another
-abbrev pub pooled_from : List ℕ → Ports → PooledServing → List PooledMove → PooledServing
+abbrev pub pooled_from : List ℕ → PortChoice → PooledServing → List PooledMove → PooledServing
 pooled_from homes ports s [] = s
 pooled_from homes ports s (m ∷ ms) = pooled_from homes ports (pooled_by homes ports s m) ms
 
@@ -77,20 +78,21 @@ abbrev pub opening_pooled : ℕ → List ℕ → PooledServing
 opening_pooled count homes = record { serving = opening_serving count homes; collected = λ c. false }
 
 -- the chain that serves after a run
-abbrev pub pooled : ℕ → List ℕ → Ports → List PooledMove → ServingChain
+abbrev pub pooled : ℕ → List ℕ → PortChoice → List PooledMove → ServingChain
 pooled count homes ports moves = (pooled_from homes ports (opening_pooled count homes) moves).serving
 
 -- ---- the order of all calls, in the words of `Served.antt`
 
 -- x precedes y: after some first k moves x is answered, and y isn't made
-pub record ComesBeforePooled (ports : Ports) (count : ℕ) (homes : List ℕ) (moves : List PooledMove) (x y : CallName) :
+pub record ComesBeforePooled (ports : PortChoice) (count : ℕ) (homes : List ℕ) (moves : List PooledMove)
+    (x y : CallName) :
     Type 0 where
   pub k : ℕ
   pub answered : IsSome (reply_got (pooled count homes ports (take k moves)) x)
   pub not_made : call_made (pooled count homes ports (take k moves)) y ≡ None
 
 -- The order h is one of all connections' calls:
-pub record IsOneOrderPooled (ports : Ports) (count : ℕ) (homes : List ℕ) (moves : List PooledMove)
+pub record IsOneOrderPooled (ports : PortChoice) (count : ℕ) (homes : List ℕ) (moves : List PooledMove)
     (h : List ServedCall) : Type 0 where
   -- each reply in it is that of a single table, after all calls before it;
   pub legal : IsLegal (map (λ e. (e.call, e.reply)) h)
@@ -111,12 +113,12 @@ pub record IsOneOrderPooled (ports : Ports) (count : ℕ) (homes : List ℕ) (mo
       → (i : ℕ) × (i < j) × StandsThere h i x
 
 -- the call was made, and its step is published
-abbrev pub is_call_published_at : Ports → ServingChain → CallName → Bool
+abbrev pub is_call_published_at : PortChoice → ServingChain → CallName → Bool
 is_call_published_at ports s x = is_some (call_made s x) && is_published_at ports s.chain (id_at_seat s x)
 
 -- x is published first: x and y are updates at one server of the chain, and after some first k moves the step of x is
 -- published, and that of y isn't
-pub record PublishedFirstPooled (ports : Ports) (count : ℕ) (homes : List ℕ) (moves : List PooledMove)
+pub record PublishedFirstPooled (ports : PortChoice) (count : ℕ) (homes : List ℕ) (moves : List PooledMove)
     (x y : CallName) : Type 0 where
   pub k : ℕ
   pub published : is_call_published_at ports (pooled count homes ports (take k moves)) x ≡ true
@@ -129,7 +131,7 @@ pub record PublishedFirstPooled (ports : Ports) (count : ℕ) (homes : List ℕ)
   pub later_update : IsMadeUpdate (pooled count homes ports moves) y
 
 -- The order h is in turn:
-pub record IsServedInTurnPooled (ports : Ports) (count : ℕ) (homes : List ℕ) (moves : List PooledMove)
+pub record IsServedInTurnPooled (ports : PortChoice) (count : ℕ) (homes : List ℕ) (moves : List PooledMove)
     (h : List ServedCall) : Type 0 where
   -- if x is published first, before y, and y is in it, x is in it, at an earlier place;
   pub in_turn : (x y : CallName) (j : ℕ)

@@ -8,6 +8,8 @@ use Rattle.interleavings.specs.Chains.{OfSeat, first_of}
 use Rattle.interleavings.specs.Moves.{Takes, done}
 use Rattle.interleavings.specs.ServingMoves.{ServingMove, Runs, served}
 use Rattle.interleavings.specs.Rows.{PartName, IsPart}
+use Rattle.interleavings.specs.FreePorts.{PortChoice}
+use Rattle.interleavings.specs.Pools.{PooledMove, Serves, pooled}
 
 -- By which sender a seat sends its calls. Several seats may have one: in the code all seats of a thread's pool do.
 abbrev pub Senders : Type 0
@@ -33,3 +35,26 @@ pub record AreTakenInOrder (senders : Senders) (count : ℕ) (homes : List ℕ) 
 pub record HaveOneSender (senders : Senders) (row : List PartName) : Type 0 where
   pub sender : ℕ
   pub sends : (p : PartName) → IsPart row p → senders p.seat ≡ sender
+
+-- ---- with free ports
+
+-- By which sender calls are sent from each port of each server. In the code each port is of one pool, which has one
+-- sender.
+abbrev pub PortSenders : Type 0
+PortSenders = (i port : ℕ) → ℕ
+
+-- each seat sends all its calls from ports of its sender
+abbrev pub AreOfSenders : PortSenders → Senders → PortChoice → List ℕ → Type 0
+AreOfSenders port_senders senders ports homes =
+    (c ordinal i : ℕ) → slice_get homes c ≡ Some i → port_senders i (ports c ordinal) ≡ senders c
+
+-- Each sender's calls are taken in the order in which they were sent: if the move after some first k takes a call from
+-- an inbox, that is the first call there from a port of its sender.
+pub record AreTakenInPortOrder (port_senders : PortSenders) (ports : PortChoice) (count : ℕ) (homes : List ℕ)
+    (moves : List PooledMove) : Type 0 where
+  pub in_order : (k i port : ℕ)
+      → slice_get moves k ≡ Some (Serves (Runs (Takes i (OfSeat port))))
+      → IsSome (first_of (OfSeat port) ((pooled count homes ports (take k moves)).chain.servers i).inbox)
+      → first_seat (port_senders i) (port_senders i port)
+      ((pooled count homes ports (take k moves)).chain.servers i).inbox
+      ≡ Some port

@@ -6,7 +6,7 @@ use Rattle.table.specs.declared.operations.Op.TheVariants.{Flush}
 use Rattle.table.specs.declared.operations.Target.TheVariants.{All}
 use Rattle.interleavings.specs.Chains.{OfSeat}
 use Rattle.interleavings.specs.Moves.{Move, Sends, Takes, Publishes, Replies, Receives, read_of}
-use Rattle.interleavings.specs.FreePorts.{Ports}
+use Rattle.interleavings.specs.FreePorts.{PortChoice}
 use Rattle.interleavings.specs.WorkedRuns.{key, set}
 use Rattle.interleavings.specs.ServingMoves.{Reads, Begins, Asks, Answers, Writes, Ends, Runs}
 use Rattle.interleavings.specs.Pools.{PooledMove, Serves, Collects}
@@ -16,7 +16,7 @@ abbrev pub shared_homes : List ℕ
 shared_homes = 0 ∷ 0 ∷ []
 
 -- the port of each call
-abbrev pub port_zero : Ports
+abbrev pub port_zero : PortChoice
 port_zero c ordinal = 0
 
 -- a flush
@@ -51,8 +51,8 @@ old_moves =
     Sends 0 set ∷ Takes 0 (OfSeat 0) ∷ Publishes 0 ∷ Replies 0 0 ∷ Sends 1 flush ∷ Takes 0 (OfSeat 0) ∷ Publishes 0
     ∷ Replies 0 0 ∷ Receives 0 ∷ Receives 0 ∷ []
 
--- ---- Two connections of one server. The first one ends while its set has no reply; the second one asks for a flush. Its
--- ---- call waits until the set's reply was put, and was collected.
+-- ---- Two connections of one server. The first one ends while its set has no reply; the second one asks for a flush.
+-- ---- Its call waits until the set's reply was put, and was collected.
 
 -- the first connection's set is sent, and it ends
 unfoldable pub set_is_lost : List PooledMove
@@ -78,3 +78,15 @@ waiting_moves = set_is_lost ++ reply_is_put
 -- all moves
 abbrev pub collected_moves : List PooledMove
 collected_moves = set_is_lost ++ (reply_is_put ++ port_is_free)
+
+-- ---- The same with queues of ports: a move that puts a reply names its port.
+
+-- the reply is collected, and the second connection has its own
+unfoldable pub port_queue_is_free : List PooledMove
+port_queue_is_free =
+    Collects 0 ∷ Serves (Asks 1) ∷ Serves (Runs (Takes 0 (OfSeat 0))) ∷ Serves (Runs (Publishes 0))
+    ∷ Serves (Runs (Replies 0 0)) ∷ Serves (Answers 1) ∷ Serves (Writes 1 40) ∷ []
+
+-- all moves
+abbrev pub queued_moves : List PooledMove
+queued_moves = set_is_lost ++ (reply_is_put ++ port_queue_is_free)

@@ -1,11 +1,13 @@
 -- Worked runs of a client that has two sets in flight: their moves.
-use Rattle.std.specs.Prelude.{ℕ, List, [], ◌∷◌, ◌++◌, codes}
+use Rattle.std.specs.Prelude.{ℕ, List, [], ◌∷◌, ◌++◌, map, codes}
 use Rattle.interleavings.specs.Chains.{OfSeat}
 use Rattle.interleavings.specs.Moves.{Takes, Publishes, Replies}
 use Rattle.interleavings.specs.ServingMoves.{ServingMove, Reads, Begins, Asks, Answers, Writes, Runs}
 use Rattle.interleavings.specs.Served.{CallName}
 use Rattle.interleavings.specs.Rows.{PartName}
-use Rattle.interleavings.specs.Senders.{Senders}
+use Rattle.interleavings.specs.FreePorts.{PortChoice}
+use Rattle.interleavings.specs.Pools.{PooledMove, Serves}
+use Rattle.interleavings.specs.Senders.{Senders, PortSenders}
 
 -- ---- One server, and a client that sends two sets at once. The second one goes ahead while the first one is open, so
 -- ---- it is of another part.
@@ -67,3 +69,17 @@ one_sender c = 0
 -- each by one of its own
 abbrev pub two_senders : Senders
 two_senders c = c
+
+-- ---- The same run with free ports: each seat chooses the port of its own number.
+
+-- the port of each call
+abbrev pub own_number : PortChoice
+own_number c ordinal = c
+
+-- both ports are of one sender
+abbrev pub one_port_sender : PortSenders
+one_port_sender i port = 0
+
+-- the moves
+abbrev pub pooled_moves : List PooledMove
+pooled_moves = map Serves pipelined_moves

@@ -7,11 +7,12 @@ use Rattle.node.specs.Servers.{opening}
 use Rattle.node.specs.Steps.{step}
 use Rattle.interleavings.specs.Chains.{RunningServer, Seat, Chain, with_running, with_channel, Sender, first_of}
 use Rattle.interleavings.specs.Chains.{without_first_of}
-use Rattle.interleavings.specs.Moves.{Sends, Takes, Publishes, Arrives, Replies, Looks, Notices, is_free, looked, brought}
+use Rattle.interleavings.specs.Moves.{Sends, Takes, Publishes, Arrives, Replies, Looks, Notices, is_free, looked}
+use Rattle.interleavings.specs.Moves.{brought}
 use Rattle.interleavings.specs.Moves.{done}
 use Rattle.interleavings.specs.OtherMoves.{Doing}
 use Rattle.interleavings.specs.OwnPorts.{sent_from, replying_from}
-use Rattle.interleavings.specs.FreePorts.{Ports, port_now, with_free_ports}
+use Rattle.interleavings.specs.FreePorts.{PortChoice, port_now, with_free_ports}
 
 -- ---- A look may show an older face than the one that stands: here it shows the one with which the server opened.
 
@@ -76,13 +77,13 @@ with_lossy_channels l m = done l m
 -- ---- A call may be sent from a port at which another one is open.
 
 -- moves with such calls
-abbrev pub with_taken_ports : List ℕ → Ports → Doing
+abbrev pub with_taken_ports : List ℕ → PortChoice → Doing
 with_taken_ports homes ports l (Sends c call) = sent_from (port_now ports l c) l c call (l.seats c)
 with_taken_ports homes ports l m = with_free_ports homes ports l m
 
 -- ---- A reply may go to the seat that had its port before.
 
 -- moves with such replies
-abbrev pub with_old_holders : List ℕ → Ports → Doing
+abbrev pub with_old_holders : List ℕ → PortChoice → Doing
 with_old_holders homes ports l (Replies i c) = replying_from (port_now ports l c) l i c (l.seats c)
 with_old_holders homes ports l m = with_free_ports homes ports l m

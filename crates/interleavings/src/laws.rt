@@ -15,7 +15,7 @@ ghost use Rattle.interleavings.specs.Orders.{IsLinearization, IsInTurn};
 ghost use Rattle.interleavings.specs.Quiet.{IsQuiet, NoneForgotten};
 ghost use Rattle.interleavings.specs.OtherMoves.{Doing, moved_by, IsLinearizationBy, IsInTurnBy};
 ghost use Rattle.interleavings.specs.OwnPorts.{seats_at, port_at, own_port, with_own_ports};
-ghost use Rattle.interleavings.specs.FreePorts.{Ports, with_free_ports, IsInTurnAt};
+ghost use Rattle.interleavings.specs.FreePorts.{PortChoice, with_free_ports, IsInTurnAt};
 ghost use Rattle.interleavings.specs.Ports.{input_at, renamed, renamed_result};
 ghost use Rattle.interleavings.specs.Connections.{waits, may_have};
 ghost use Rattle.interleavings.specs.ServingMoves.{ServingMove, served_at, served};
@@ -23,10 +23,12 @@ ghost use Rattle.interleavings.specs.Served.{unrefused, NoneRefused, IsServed, S
 ghost use Rattle.interleavings.specs.Served.{IsServedInTurn, NoneUnanswered, AllHaveAll, CallName, reply_got};
 ghost use Rattle.interleavings.specs.Served.{is_call_published};
 ghost use Rattle.interleavings.specs.Pools.{PooledMove, pooled, IsOneOrderPooled, IsServedInTurnPooled};
-ghost use Rattle.interleavings.specs.Pools.{IsServingQuiet, NoneOpen, ServedHaveAll};
+ghost use Rattle.interleavings.specs.PortQueues.{queued, IsWithSeatQueues};
+ghost use Rattle.interleavings.specs.Pools.{opening_pooled, pooled_from, IsServingQuiet, NoneOpen, ServedHaveAll};
 ghost use Rattle.interleavings.specs.Rows.{PartName, AreWhole, IsRow, IsPublishedInTurn};
 ghost use Rattle.interleavings.specs.Rows.{IsRowServed, IsRowInTurn};
-ghost use Rattle.interleavings.specs.Senders.{Senders, HaveOneSender, AreTakenInOrder};
+ghost use Rattle.interleavings.specs.Senders.{Senders, HaveOneSender, AreTakenInOrder, PortSenders, AreOfSenders};
+ghost use Rattle.interleavings.specs.Senders.{AreTakenInPortOrder};
 ghost use Rattle.world.specs.Orders.{OrderedCall};
 
 /// Every run of moves of a chain of up to 16 servers, with servers that stop at any move, has an order of its calls in
@@ -77,17 +79,17 @@ pub fn seats_may_have_own_ports()
         → port_at homes c i < seats_at homes i }
 {}
 
-/// Calls may have any free port: whichever port each call of a seat is sent from, if no call from there awaits its reply
-/// at that server.
+/// Calls may have any free port: whichever port each call of a seat is sent from, if no call from there awaits its
+/// reply at that server.
 pub fn calls_may_have_any_free_port()
     // Every run has an order of its calls, in which updates of a server stand in turn.
-    ensures order { (count : ℕ) (homes : List ℕ) (ports : Ports) (moves : List Move)
+    ensures order { (count : ℕ) (homes : List ℕ) (ports : PortChoice) (moves : List Move)
         → count ≤ 16
         → AreAsked moves
         → (h : List OrderedCall) × IsLinearizationBy (with_free_ports homes ports) count homes moves h
         × IsInTurnAt ports count homes moves h }
     // If nothing is left to do, each call of a seat whose server goes on has its reply.
-    ensures none_forgotten { (count : ℕ) (homes : List ℕ) (ports : Ports) (moves : List Move)
+    ensures none_forgotten { (count : ℕ) (homes : List ℕ) (ports : PortChoice) (moves : List Move)
         → count ≤ 16
         → length moves < 2 ^ 62
         → AreAsked moves
@@ -109,21 +111,21 @@ pub fn served_seats_may_have_own_ports()
         → IsServed ((served (with_own_ports homes) count homes moves).connections c n) }
 {}
 
-/// Seats that serve connections may send each call from any free port, and a port is free again once its reply is taken:
-/// by its connection, or for nobody if that has ended.
+/// Seats that serve connections may send each call from any free port, and a port is free again once its reply is
+/// taken: by its connection, or for nobody if that has ended.
 pub fn served_calls_may_have_any_free_port()
     // There is one order of the calls of all connections, in which updates of a server stand in turn, and so do the
     // calls of a connection.
-    ensures order { (count : ℕ) (homes : List ℕ) (ports : Ports) (moves : List PooledMove)
+    ensures order { (count : ℕ) (homes : List ℕ) (ports : PortChoice) (moves : List PooledMove)
         → count ≤ 16
         → (h : List ServedCall) × IsOneOrderPooled ports count homes moves h
         × IsServedInTurnPooled ports count homes moves h }
     // Each connection makes the calls that its bytes spell, but for stores that are refused, and is written the texts
     // of its turns.
-    ensures bytes { (count : ℕ) (homes : List ℕ) (ports : Ports) (moves : List PooledMove) (c n : ℕ)
+    ensures bytes { (count : ℕ) (homes : List ℕ) (ports : PortChoice) (moves : List PooledMove) (c n : ℕ)
         → IsServed ((pooled count homes ports moves).connections c n) }
     // What stands first in a queue is a reply that the connection which waits for it can take.
-    ensures kinds { (count : ℕ) (homes : List ℕ) (ports : Ports) (moves : List PooledMove) (c : ℕ) (reply : Reply)
+    ensures kinds { (count : ℕ) (homes : List ℕ) (ports : PortChoice) (moves : List PooledMove) (c : ℕ) (reply : Reply)
         (more : List Reply)
         → count ≤ 16
         → ((pooled count homes ports moves).chain.seats c).queued ≡ reply ∷ more
@@ -131,23 +133,33 @@ pub fn served_calls_may_have_any_free_port()
         → may_have (served_at (pooled count homes ports moves) c).session.asked reply ≡ true }
     // Some run with the seats' numbers as ports, of as many moves, shows the same connections after each of them: so
     // what is said of connections alone, as that they are a row, holds of both.
-    ensures same { (count : ℕ) (homes : List ℕ) (ports : Ports) (moves : List PooledMove)
+    ensures same { (count : ℕ) (homes : List ℕ) (ports : PortChoice) (moves : List PooledMove)
         → (others : List ServingMove) × (length others ≡ length moves)
         × ((k : ℕ) → (served done count homes (take k others)).connections
         ≡ (pooled count homes ports (take k moves)).connections) }
     // If nothing is left to do, each call of a connection that hasn't ended has its reply, if its server goes on;
-    ensures answered { (count : ℕ) (homes : List ℕ) (ports : Ports) (moves : List PooledMove)
+    ensures answered { (count : ℕ) (homes : List ℕ) (ports : PortChoice) (moves : List PooledMove)
         → count ≤ 16
         → length moves < 2 ^ 62
         → IsServingQuiet (pooled count homes ports moves)
         → NoneOpen (pooled count homes ports moves) }
     // and if nothing is left to do at such a connection either, all its calls are answered or refused, and all is
     // written.
-    ensures all { (count : ℕ) (homes : List ℕ) (ports : Ports) (moves : List PooledMove)
+    ensures all { (count : ℕ) (homes : List ℕ) (ports : PortChoice) (moves : List PooledMove)
         → count ≤ 16
         → length moves < 2 ^ 62
         → IsServingQuiet (pooled count homes ports moves)
         → ServedHaveAll (pooled count homes ports moves) }
+{}
+
+/// Queues of ports do for those of seats: if a reply stands in the queue of the port for which it was put, as in the
+/// code, some run with queues of seats, of as many moves, shows the same after each of them, and the reply that stands
+/// first in a port's queue is the one of the seat that holds the port.
+pub fn ports_may_have_queues()
+    ensures { (count : ℕ) (homes : List ℕ) (ports : PortChoice) (moves : List PooledMove)
+        → (others : List PooledMove) × (length others ≡ length moves)
+        × ((k : ℕ) → IsWithSeatQueues ports (queued count homes ports (take k moves))
+        (pooled_from homes ports (opening_pooled count homes) (take k others))) }
 {}
 
 /// Each call that clients can ask is spelled by some bytes, as the one call of a request.
@@ -268,4 +280,35 @@ pub fn rows_are_published_in_turn()
         → (h : List ServedCall) × IsOneOrder done count homes moves h
         × IsServedInTurn done (λ c. c) count homes moves h
         × IsRowInTurn (λ c. c) (served done count homes moves) row h }
+{}
+
+/// The same of a chain whose calls take free ports, if each sender's calls are taken in the order in which they were
+/// sent, by the ports from which they come. A row of it is one of a run with the seats' numbers as ports, which shows
+/// the same connections after each move.
+pub fn calls_from_ports_stay_in_order()
+    // In that run each sender's calls are taken in order, by their seats.
+    ensures in_order { (port_senders : PortSenders) (senders : Senders) (count : ℕ) (homes : List ℕ)
+        (ports : PortChoice) (moves : List PooledMove)
+        → AreOfSenders port_senders senders ports homes
+        → AreTakenInPortOrder port_senders ports count homes moves
+        → (others : List ServingMove) × (length others ≡ length moves)
+        × ((k : ℕ) → (served done count homes (take k others)).connections
+        ≡ (pooled count homes ports (take k moves)).connections)
+        × AreTakenInOrder senders count homes others }
+    // So there is, for each row whose seats send by one sender, one order of all calls in which the row's stand in
+    // turn.
+    ensures order { (port_senders : PortSenders) (senders : Senders) (count : ℕ) (homes : List ℕ) (ports : PortChoice)
+        (moves : List PooledMove)
+        → count ≤ 16
+        → AreOfSenders port_senders senders ports homes
+        → AreTakenInPortOrder port_senders ports count homes moves
+        → (others : List ServingMove) × (length others ≡ length moves)
+        × ((k : ℕ) → (served done count homes (take k others)).connections
+        ≡ (pooled count homes ports (take k moves)).connections)
+        × ((row : List PartName)
+        → IsRow done count homes others row
+        → HaveOneSender senders row
+        → (h : List ServedCall) × IsOneOrderPooled ports count homes moves h
+        × IsServedInTurnPooled ports count homes moves h
+        × IsRowInTurn (λ c. c) (served done count homes others) row h) }
 {}

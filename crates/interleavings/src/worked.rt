@@ -14,9 +14,11 @@ ghost use Rattle.interleavings.specs.OtherMoves.{moved_by, IsLinearizationBy, Ha
 ghost use Rattle.interleavings.specs.WrongMoves.{with_older_looks, with_early_puts, with_early_notices};
 ghost use Rattle.interleavings.specs.WrongMoves.{with_lossy_channels, with_taken_ports, with_old_holders};
 ghost use Rattle.interleavings.specs.FreePorts.{with_free_ports};
-ghost use Rattle.interleavings.specs.Pools.{pooled};
+ghost use Rattle.interleavings.specs.Pools.{pooled, IsServingQuiet};
 ghost use Rattle.interleavings.specs.WorkedPorts.{shared_homes, port_zero, flush, set_has_port, port_moves};
 ghost use Rattle.interleavings.specs.WorkedPorts.{taken_moves, old_moves, waiting_moves, collected_moves};
+ghost use Rattle.interleavings.specs.WorkedPorts.{queued_moves};
+ghost use Rattle.interleavings.specs.PortQueues.{queued};
 ghost use Rattle.interleavings.specs.WorkedRuns.{key, set, other_set, item, set_homes, set_moves};
 ghost use Rattle.interleavings.specs.WorkedRuns.{left_to_do};
 ghost use Rattle.interleavings.specs.WorkedRuns.{failover_homes, look_while_dirty, failover_moves};
@@ -30,7 +32,8 @@ ghost use Rattle.interleavings.specs.Rows.{IsRow, IsPublishedInTurn, IsRowInTurn
 ghost use Rattle.interleavings.specs.Rows.{row_calls, row_replies, row_written};
 ghost use Rattle.interleavings.specs.WorkedRows.{first_bytes, second_bytes, two_parts, pipelined_moves};
 ghost use Rattle.interleavings.specs.WorkedRows.{first_call, second_call, overtaken_moves, one_sender, two_senders};
-ghost use Rattle.interleavings.specs.Senders.{HaveOneSender, AreTakenInOrder};
+ghost use Rattle.interleavings.specs.Senders.{HaveOneSender, AreTakenInOrder, AreOfSenders, AreTakenInPortOrder};
+ghost use Rattle.interleavings.specs.WorkedRows.{own_number, one_port_sender, pooled_moves};
 ghost use Rattle.interleavings.specs.WorkedServing.{talk_homes, talk_moves, last_moves, lost_moves, delete};
 ghost use Rattle.interleavings.specs.WorkedServing.{refused_moves, turn_moves, first_set, second_set};
 
@@ -146,6 +149,13 @@ pub fn one_sender_keeps_the_order()
     ensures overtaken { AreTakenInOrder one_sender 1 flight_homes overtaken_moves → ⊥ }
 {}
 
+/// The two sets of one client go from two ports of one sender, and are taken in the order in which they were sent.
+pub fn ports_of_one_sender_keep_the_order()
+    ensures senders { AreOfSenders one_port_sender one_sender own_number flight_homes }
+    ensures in_order { AreTakenInPortOrder one_port_sender own_number 1 flight_homes pooled_moves }
+    ensures calls { ((pooled 1 flight_homes own_number pooled_moves).connections 1 0).calls ≡ other_set ∷ [] }
+{}
+
 /// If the two sets go by two senders, each sender's calls may be taken in order, and the sets not published in turn.
 pub fn two_senders_may_overtake()
     ensures two { HaveOneSender two_senders two_parts → ⊥ }
@@ -156,7 +166,8 @@ pub fn two_senders_may_overtake()
 /// Two seats of one server choose the same port. The second one's flush isn't sent while the first one's set is open
 /// there; it is once the set's reply was put, and each seat gets its own reply.
 pub fn port_is_used_again()
-    ensures waits { begun_call (moved_by (with_free_ports shared_homes port_zero) 1 shared_homes set_has_port) (name 1 0)
+    ensures waits { begun_call (moved_by (with_free_ports shared_homes port_zero) 1 shared_homes set_has_port)
+        (name 1 0)
         ≡ None }
     ensures first { reply_to (moved_by (with_free_ports shared_homes port_zero) 1 shared_homes port_moves) (name 0 0)
         ≡ Some Stored }
@@ -174,6 +185,17 @@ pub fn collected_port_is_used_again()
     ensures written { ((pooled 1 shared_homes port_zero collected_moves).connections 1 0).written ≡ codes "OK\r\n" }
     // The set's reply went to nobody.
     ensures lost { ((pooled 1 shared_homes port_zero collected_moves).connections 0 0).replies ≡ [] }
+    // Nothing is left to do then.
+    ensures quiet { IsServingQuiet (pooled 1 shared_homes port_zero collected_moves) }
+{}
+
+/// The same with queues of ports: the set's reply stands in the queue of the port until it is collected, and then the
+/// flush's reply comes into that queue and goes to its connection.
+pub fn port_queue_is_used_again()
+    ensures waits { (queued 1 shared_homes port_zero waiting_moves).queues 0 0 ≡ Stored ∷ [] }
+    ensures written { ((queued 1 shared_homes port_zero queued_moves).pooled.serving.connections 1 0).written
+        ≡ codes "OK\r\n" }
+    ensures empty { (queued 1 shared_homes port_zero queued_moves).queues 0 0 ≡ [] }
 {}
 
 /// If a call may be sent from a port at which another one is open, a run has no order.

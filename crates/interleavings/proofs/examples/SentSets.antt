@@ -1,5 +1,7 @@
 -- Two sets of one client, by one sender, and by two.
-use Rattle.std.proofs.Common.{◌≡◌, ℕ, zero, suc, true, false, take, Option, None, Some, refl, subst, sym, ap, arith, ◌∙◌}
+use Rattle.std.proofs.Common.{◌∷◌, [], ◌≡◌, ℕ, zero, suc, true, false, take, Option, None, Some, refl, subst, sym, ap}
+use Rattle.std.proofs.Common.{arith}
+use Rattle.std.proofs.Common.{◌∙◌}
 use Rattle.std.proofs.Common.{lit<}
 use Rattle.std.specs.Prelude.{slice_get, IsSome}
 use Rattle.std.proofs.lemmas.Option.{same_Some}
@@ -18,7 +20,10 @@ use Rattle.interleavings.specs.Rows.{IsPublishedInTurn}
 use Rattle.interleavings.specs.Senders.{first_seat, AreTakenInOrder, HaveOneSender}
 use Rattle.interleavings.specs.WorkedRuns.{flight_homes, set, other_set}
 use Rattle.interleavings.specs.WorkedRows.{first_part, second_part, two_parts, first_call, second_call, pipelined_moves}
-use Rattle.interleavings.specs.WorkedRows.{overtaken_moves, one_sender, two_senders}
+use Rattle.interleavings.specs.WorkedRows.{overtaken_moves, one_sender, two_senders, own_number, one_port_sender}
+use Rattle.interleavings.specs.WorkedRows.{pooled_moves}
+use Rattle.interleavings.specs.Pools.{PooledMove, Serves, pooled}
+use Rattle.interleavings.specs.Senders.{AreTakenInPortOrder}
 
 -- ---- one sender
 
@@ -102,6 +107,68 @@ not_in_order t =
     let no : Some 0 ≡ Some 1 = sym overtaker_first ∙ t.in_order 6 0 1 seventh overtaker_there in
     let same : 0 ≡ 1 = same_Some 0 1 no in
     omega (arith, same)
+
+-- ---- two ports of one sender
+
+abbrev From : ℕ → ℕ → ℕ → Type 0
+From k i p =
+    first_seat (one_port_sender i) 0
+    ((pooled 1 flight_homes own_number (take k pooled_moves)).chain.servers i).inbox
+    ≡ Some p
+
+-- from which port a move takes a call, and at which server
+abbrev pool_server : Option PooledMove → ℕ
+pool_server None = 0
+pool_server (Some (Serves (Runs (Takes i (OfSeat p))))) = i
+pool_server (Some m) = 0
+
+abbrev pool_port : Option PooledMove → ℕ
+pool_port None = 0
+pool_port (Some (Serves (Runs (Takes i (OfSeat p))))) = p
+pool_port (Some m) = 0
+
+first_from : From 6 0 0
+unfolding pipelined_moves with_at line_limit has union single is_below adds next_from predecessor most appended entered
+    trimmed left_open replies risen passed_on take_update
+first_from = refl
+
+second_from : From 8 0 1
+unfolding pipelined_moves with_at line_limit has union single is_below adds next_from predecessor most appended entered
+    trimmed left_open replies risen passed_on take_update
+second_from = refl
+
+from_then : (k i p : ℕ) → slice_get pooled_moves k ≡ Some (Serves (Runs (Takes i (OfSeat p)))) → From k i p
+unfolding pipelined_moves
+from_then zero i p e = absurd cc
+from_then (suc zero) i p e = absurd cc
+from_then (suc (suc zero)) i p e = absurd cc
+from_then (suc (suc (suc zero))) i p e = absurd cc
+from_then (suc (suc (suc (suc zero)))) i p e = absurd cc
+from_then (suc (suc (suc (suc (suc zero))))) i p e = absurd cc
+from_then (suc (suc (suc (suc (suc (suc zero)))))) i p e =
+    subst (λ a. From 6 a p) (ap pool_server e) (subst (λ b. From 6 0 b) (ap pool_port e) first_from)
+from_then (suc (suc (suc (suc (suc (suc (suc zero))))))) i p e = absurd cc
+from_then (suc (suc (suc (suc (suc (suc (suc (suc zero)))))))) i p e =
+    subst (λ a. From 8 a p) (ap pool_server e) (subst (λ b. From 8 0 b) (ap pool_port e) second_from)
+from_then (suc (suc (suc (suc (suc (suc (suc (suc (suc zero))))))))) i p e = absurd cc
+from_then (suc (suc (suc (suc (suc (suc (suc (suc (suc (suc zero)))))))))) i p e = absurd cc
+from_then (suc (suc (suc (suc (suc (suc (suc (suc (suc (suc (suc zero))))))))))) i p e = absurd cc
+from_then (suc (suc (suc (suc (suc (suc (suc (suc (suc (suc (suc (suc zero)))))))))))) i p e = absurd cc
+from_then (suc (suc (suc (suc (suc (suc (suc (suc (suc (suc (suc (suc (suc zero))))))))))))) i p e = absurd cc
+from_then (suc (suc (suc (suc (suc (suc (suc (suc (suc (suc (suc (suc (suc (suc zero)))))))))))))) i p e = absurd cc
+from_then (suc (suc (suc (suc (suc (suc (suc (suc (suc (suc (suc (suc (suc (suc
+    (suc zero))))))))))))))) i p e = absurd cc
+from_then (suc (suc (suc (suc (suc (suc (suc (suc (suc (suc (suc (suc (suc (suc (suc
+    (suc k)))))))))))))))) i p e = absurd cc
+
+-- the calls are taken in order by their ports too
+pub in_port_order : AreTakenInPortOrder one_port_sender own_number 1 flight_homes pooled_moves
+in_port_order = record { in_order = λ k i p e some. from_then k i p e }
+
+pub pooled_calls : ((pooled 1 flight_homes own_number pooled_moves).connections 1 0).calls ≡ other_set ∷ []
+unfolding pipelined_moves with_at line_limit has union single is_below adds next_from predecessor most appended entered
+    trimmed left_open replies risen passed_on take_update
+pooled_calls = refl
 
 -- ---- two senders
 

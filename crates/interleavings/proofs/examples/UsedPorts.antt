@@ -22,13 +22,14 @@ use Rattle.interleavings.specs.Moves.{Move, read_of}
 use Rattle.interleavings.specs.Orders.{begun_call, reply_to}
 use Rattle.interleavings.specs.OtherMoves.{Doing, moved_by, HasNoOrder}
 use Rattle.interleavings.specs.FreePorts.{with_free_ports}
-use Rattle.interleavings.specs.Pools.{pooled}
+use Rattle.interleavings.specs.Pools.{PooledMove, pooled}
+use Rattle.interleavings.specs.PortQueues.{QueuedServing, queued}
 use Rattle.interleavings.specs.ServingMoves.{ServingChain}
 use Rattle.interleavings.specs.WrongMoves.{with_taken_ports, with_old_holders}
 use Rattle.interleavings.specs.WorkedRuns.{key}
 use Rattle.interleavings.specs.WorkedPorts.{shared_homes, port_zero, flush, set_has_port, flush_has_port, port_moves}
 use Rattle.interleavings.specs.WorkedPorts.{taken_moves, old_moves, set_is_lost, reply_is_put, port_is_free}
-use Rattle.interleavings.specs.WorkedPorts.{waiting_moves, collected_moves}
+use Rattle.interleavings.specs.WorkedPorts.{waiting_moves, collected_moves, port_queue_is_free, queued_moves}
 use Rattle.interleavings.proofs.examples.AskedCalls.{set_asked}
 use Rattle.interleavings.proofs.served.Kinds.{legal_kind}
 
@@ -87,6 +88,26 @@ pub none_got : (collected.connections 0 0).replies ≡ []
 unfolding set_is_lost reply_is_put port_is_free with_at line_limit has union single is_below adds next_from predecessor
     most appended entered trimmed left_open replies risen passed_on take_update
 none_got = refl
+
+-- ---- the same with queues of ports
+
+abbrev queued_run : List PooledMove → QueuedServing
+queued_run moves = queued 1 shared_homes port_zero moves
+
+pub reply_queued : (queued_run waiting_moves).queues 0 0 ≡ Stored ∷ []
+unfolding set_is_lost reply_is_put with_at line_limit has union single is_below adds next_from predecessor most
+    appended entered trimmed left_open replies risen passed_on take_update
+reply_queued = refl
+
+pub flush_from_queue : ((queued_run queued_moves).pooled.serving.connections 1 0).written ≡ codes "OK\r\n"
+unfolding set_is_lost reply_is_put port_queue_is_free with_at line_limit has union single is_below adds next_from
+    predecessor most appended entered trimmed left_open replies risen passed_on take_update
+flush_from_queue = refl
+
+pub none_queued : (queued_run queued_moves).queues 0 0 ≡ []
+unfolding set_is_lost reply_is_put port_queue_is_free with_at line_limit has union single is_below adds next_from
+    predecessor most appended entered trimmed left_open replies risen passed_on take_update
+none_queued = refl
 
 -- ---- no order
 

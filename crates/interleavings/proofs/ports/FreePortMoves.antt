@@ -21,7 +21,8 @@ use Rattle.interleavings.specs.Moves.{Notices, is_free, read_of, brought, sent, 
 use Rattle.interleavings.specs.Moves.{publishing, put, arrived, has_stopped, done}
 use Rattle.interleavings.specs.OwnPorts.{reply_put_from}
 use Rattle.interleavings.specs.ServingMoves.{is_of_seat}
-use Rattle.interleavings.specs.FreePorts.{Ports, port_now, awaits_reply, is_free_port, with_free_ports}
+use Rattle.interleavings.specs.Chains.{Sender, OfSeat}
+use Rattle.interleavings.specs.FreePorts.{PortChoice, port_now, awaits_reply, is_free_port, with_free_ports}
 use Rattle.interleavings.proofs.ports.FreePortReplies.{holds_replied}
 use Rattle.interleavings.proofs.ports.FreePortSends.{renaming, after_send, same_after, holds_after}
 use Rattle.interleavings.proofs.ports.OwnPortMoves.{receives_same, looks_same, takes_same, publishes_same, puts_same}
@@ -33,7 +34,7 @@ use Rattle.interleavings.proofs.ports.RenamedChains.{SameUnder, seat_there}
 use Rattle.interleavings.proofs.ports.RenamedServers.{sender_at}
 use Rattle.interleavings.proofs.ports.StandingPorts.{taking_standing, publishing_standing, message_standing}
 
-module _ (n : ℕ) (homes : List ℕ) (ports : Ports) where
+module _ (n : ℕ) (homes : List ℕ) (ports : PortChoice) where
   -- some move makes of g what stands, with some names, for the chain l; and it asks no other calls than the move m
   pub record Follows (m : Move) (l g : Chain) : Type 0 where
     pub move : Move
@@ -42,6 +43,7 @@ module _ (n : ℕ) (homes : List ℕ) (ports : Ports) where
     pub holds : Holds n ports names l
     pub asked : IsAskedBy m → IsAskedBy move
     pub servers : is_of_seat m ≡ false → is_of_seat move ≡ false
+    pub takes : (i c : ℕ) → move ≡ Takes i (OfSeat c) → (j : ℕ) × (sender : Sender) × (m ≡ Takes j sender)
 
   -- the chain g is l with some names of ports, which lead to the seats that have them
   pub record Alike (l g : Chain) : Type 0 where
@@ -71,7 +73,8 @@ module _ (n : ℕ) (homes : List ℕ) (ports : Ports) where
         (λ p. refl)
 
     -- a seat that takes a reply had no port any more
-    received_holds : (c : ℕ) (rs : List Reply) → (l.seats c).queued ≡ rs → Holds n ports names (received l c (l.seats c) rs)
+    received_holds : (c : ℕ) (rs : List Reply) → (l.seats c).queued ≡ rs → Holds n ports names (received l c
+        (l.seats c) rs)
     received_holds c [] e = h
     received_holds c (reply ∷ more) e =
         let k = l.seats c in
@@ -119,6 +122,7 @@ module _ (n : ℕ) (homes : List ℕ) (ports : Ports) where
     pub follows_nothing : (m : Move) → Follows m l g
     follows_nothing m = record {
       move = Takes n OfNotices;
+      takes = λ a b e. (let no : Takes n OfNotices ≡ Takes a (OfSeat b) = e in absurd cc);
       names = names;
       same = subst (λ k. SameUnder n homes names l k) (sym (nothing_taken n homes l g s)) s;
       holds = h;
@@ -162,6 +166,7 @@ module _ (n : ℕ) (homes : List ℕ) (ports : Ports) where
         let a = sent_alike c call free unused in
         record {
           move = Sends c call;
+          takes = λ i b e. (let no : Sends c call ≡ Takes i (OfSeat b) = e in absurd cc);
           names = a.names;
           same = a.same;
           holds = a.holds;
@@ -215,6 +220,7 @@ module _ (n : ℕ) (homes : List ℕ) (ports : Ports) where
             let home : (l.seats c).home ≡ i = eqb-true _ _ f in
             record {
               move = Replies i c;
+              takes = λ j b e. (let no : Replies i c ≡ Takes j (OfSeat b) = e in absurd cc);
               names = names;
               same = replies_by n homes l g s h.apart i c (port_now ports l c)
                   (λ within. subst (λ k. names k (port_now ports l c) ≡ c) home
@@ -262,6 +268,7 @@ module _ (n : ℕ) (homes : List ℕ) (ports : Ports) where
     follows (Sends c call) = sends_follow c call
     follows (Takes i sender) = record {
       move = Takes i (sender_at (names i) sender);
+      takes = λ a b e. (i, sender, refl);
       names = names;
       same = takes_same n homes l g s h.apart i sender;
       holds = holds_server n ports names l h i (taking (l.servers i) sender)
@@ -271,6 +278,7 @@ module _ (n : ℕ) (homes : List ℕ) (ports : Ports) where
     }
     follows (Publishes i) = record {
       move = Publishes i;
+      takes = λ a b e. (let no : Publishes i ≡ Takes a (OfSeat b) = e in absurd cc);
       names = names;
       same = publishes_same n homes l g s i;
       holds = holds_server n ports names l h i (publishing (l.servers i)) (λ p. publishing_standing p (l.servers i));
@@ -279,6 +287,7 @@ module _ (n : ℕ) (homes : List ℕ) (ports : Ports) where
     }
     follows (Puts i j) = record {
       move = Puts i j;
+      takes = λ a b e. (let no : Puts i j ≡ Takes a (OfSeat b) = e in absurd cc);
       names = names;
       same = puts_same n homes l g s i j;
       holds = either (l.servers i).stopped l (put l i j (messages_to j (l.servers i).outbox)) h
@@ -288,6 +297,7 @@ module _ (n : ℕ) (homes : List ℕ) (ports : Ports) where
     }
     follows (Arrives i j) = record {
       move = Arrives i j;
+      takes = λ a b e. (let no : Arrives i j ≡ Takes a (OfSeat b) = e in absurd cc);
       names = names;
       same = arrives_same n homes l g s i j;
       holds = arrived_holds i j (l.channels i j);
@@ -297,6 +307,7 @@ module _ (n : ℕ) (homes : List ℕ) (ports : Ports) where
     follows (Replies i c) = replies_follow i c
     follows (Receives c) = record {
       move = Receives c;
+      takes = λ a b e. (let no : Receives c ≡ Takes a (OfSeat b) = e in absurd cc);
       names = names;
       same = receives_same n homes l g s c;
       holds = received_holds c (l.seats c).queued refl;
@@ -305,6 +316,7 @@ module _ (n : ℕ) (homes : List ℕ) (ports : Ports) where
     }
     follows (Looks c key) = record {
       move = Looks c key;
+      takes = λ a b e. (let no : Looks c key ≡ Takes a (OfSeat b) = e in absurd cc);
       names = names;
       same = looks_same n homes l g s c key;
       holds = looks_holds c key;
@@ -313,6 +325,7 @@ module _ (n : ℕ) (homes : List ℕ) (ports : Ports) where
     }
     follows (Stops i) = record {
       move = Stops i;
+      takes = λ a b e. (let no : Stops i ≡ Takes a (OfSeat b) = e in absurd cc);
       names = names;
       same = stops_same n homes l g s i;
       holds = holds_server n ports names l h i (record (l.servers i) { stopped = true }) (λ p. omega arith);
@@ -321,9 +334,11 @@ module _ (n : ℕ) (homes : List ℕ) (ports : Ports) where
     }
     follows (Notices i j) = record {
       move = Notices i j;
+      takes = λ a b e. (let no : Notices i j ≡ Takes a (OfSeat b) = e in absurd cc);
       names = names;
       same = notices_same n homes l g s i j;
-      holds = either (has_stopped l j) (brought l i (Gone j)) l (holds_brought n ports names l h i (Gone j) (λ p. refl)) h;
+      holds = either (has_stopped l j) (brought l i (Gone j)) l (holds_brought n ports names l h i (Gone j)
+          (λ p. refl)) h;
       asked = λ a. tt;
       servers = λ e. refl;
     }

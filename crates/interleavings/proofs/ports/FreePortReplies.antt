@@ -5,12 +5,13 @@ use Rattle.std.proofs.lemmas.Bool.{cases_eq, both_ways, le-ltb, ltb-true}
 use Rattle.table.specs.declared.operations.Reply.{Reply}
 use Rattle.interleavings.specs.Chains.{RunningServer, Seat, Chain, with_at, with_running, with_seat, replies_to}
 use Rattle.interleavings.specs.Chains.{without_reply}
-use Rattle.interleavings.specs.FreePorts.{Ports, port_now, awaits_reply}
+use Rattle.interleavings.specs.FreePorts.{PortChoice, port_now, awaits_reply}
 use Rattle.interleavings.proofs.lists.ChangedFunctions.{at_other, at_same}
 use Rattle.interleavings.proofs.ports.PortHolders.{Counts, Holder, Holds}
 use Rattle.interleavings.proofs.ports.StandingPorts.{standing, reply_standing, other_standing}
 
-module _ (n : ℕ) (ports : Ports) (names : ℕ → ℕ → ℕ) (l : Chain) (h : Holds n ports names l) (i c : ℕ) (reply : Reply)
+module _ (n : ℕ) (ports : PortChoice) (names : ℕ → ℕ → ℕ) (l : Chain) (h : Holds n ports names l) (i c : ℕ)
+    (reply : Reply)
     (more : List Reply)
     (home : (l.seats c).home ≡ i)
     (awaits : awaits_reply (l.seats c) ≡ true)

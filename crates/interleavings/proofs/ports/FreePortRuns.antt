@@ -1,6 +1,7 @@
 -- Every run with free ports has an order of its calls, and forgets none: those of a run with the seats' numbers as
 -- ports.
-use Rattle.std.proofs.Common.{◌≡◌, ◌≢◌, ℕ, zero, suc, ◌+◌, ◌^◌, ◌<◌, ◌≤◌, Bool, true, false, cond, List, [], ◌∷◌, length}
+use Rattle.std.proofs.Common.{◌≡◌, ◌≢◌, ℕ, zero, suc, ◌+◌, ◌^◌, ◌<◌, ◌≤◌, Bool, true, false, cond, List, [], ◌∷◌}
+use Rattle.std.proofs.Common.{length}
 use Rattle.std.proofs.Common.{map, take, Some, refl, arith, ap, sym, ◌∙◌, subst, eq-eqb}
 use Rattle.std.specs.Prelude.{slice_get, nat_lt, not, ◌&&◌, ◌==◌, IsSome}
 use Rattle.std.specs.Option.{option_map}
@@ -22,7 +23,7 @@ use Rattle.interleavings.specs.Moves.{Move, done, has_stopped, moved_from, moved
 use Rattle.interleavings.specs.Orders.{begun_call, reply_to, waiting_calls, is_published, Precedes, PublishedBefore}
 use Rattle.interleavings.specs.Orders.{IsLinearization}
 use Rattle.interleavings.specs.OtherMoves.{moved_from_by, moved_by, PrecedesBy, IsLinearizationBy}
-use Rattle.interleavings.specs.FreePorts.{Ports, port_now, awaits_reply, with_free_ports, waiting_calls_at}
+use Rattle.interleavings.specs.FreePorts.{PortChoice, port_now, awaits_reply, with_free_ports, waiting_calls_at}
 use Rattle.interleavings.specs.FreePorts.{is_published_at, PublishedBeforeAt, IsInTurnAt}
 use Rattle.interleavings.specs.Pools.{HasNothingLeft}
 use Rattle.interleavings.specs.Ports.{input_at, output_to}
@@ -36,7 +37,7 @@ use Rattle.interleavings.proofs.quiet.Answering.{none_forgotten_there, nothing_l
 use Rattle.interleavings.proofs.relation.Following.{linearizable}
 use Rattle.interleavings.proofs.runs.Simulating.{simulates}
 
-module _ (n : ℕ) (homes : List ℕ) (ports : Ports) where
+module _ (n : ℕ) (homes : List ℕ) (ports : PortChoice) where
   abbrev Alike : Chain → Chain → Type 0
   Alike l g = Named n homes ports l g
 
@@ -197,7 +198,8 @@ module _ (n : ℕ) (homes : List ℕ) (ports : Ports) where
       }
     where
       first_then : (o : Move) (os : List Move)
-          → ((k : ℕ) → Alike (moved_from_by with_ports (with_ports l m) (take k ms)) (moved_from (done g o) (take k os)))
+          → ((k : ℕ) → Alike (moved_from_by with_ports (with_ports l m) (take k ms)) (moved_from (done g o)
+          (take k os)))
           → (k : ℕ)
           → Alike (moved_from_by with_ports l (take k (m ∷ ms))) (moved_from g (take k (o ∷ os)))
       first_then o os stands zero = a
@@ -222,7 +224,8 @@ module _ (n : ℕ) (homes : List ℕ) (ports : Ports) where
         let same = (followed.stands p.k).same.seats in
         record {
           k = p.k;
-          answered = subst (λ (ss : ℕ → Seat). IsSome (slice_get (ss x.connection).got x.ordinal)) (sym same) p.answered;
+          answered = subst (λ (ss : ℕ → Seat). IsSome (slice_get (ss x.connection).got x.ordinal))
+              (sym same) p.answered;
           not_begun = ap (λ (ss : ℕ → Seat). slice_get (ss y.connection).calls y.ordinal) same ∙ p.not_begun;
         }
 

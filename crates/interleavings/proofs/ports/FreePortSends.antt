@@ -7,7 +7,7 @@ use Rattle.table.specs.declared.operations.Call.{Call}
 use Rattle.node.specs.declared.messages.Input.TheVariants.{Call as Called}
 use Rattle.interleavings.specs.Chains.{RunningServer, Seat, Chain, with_at, with_seat}
 use Rattle.interleavings.specs.Moves.{brought}
-use Rattle.interleavings.specs.FreePorts.{Ports, port_now, awaits_reply, is_free_port}
+use Rattle.interleavings.specs.FreePorts.{PortChoice, port_now, awaits_reply, is_free_port}
 use Rattle.interleavings.proofs.lists.ChangedFunctions.{at_other, at_same}
 use Rattle.interleavings.proofs.ports.PortHolders.{Counts, Holder, Holds, free_waits_not, free_is_not}
 use Rattle.interleavings.proofs.ports.RenamedChains.{SameUnder, same_seat, same_brought}
@@ -46,7 +46,8 @@ exchanged_twice a b x = elim (cases_eq x a) [
   ]
 ]
 
-module _ (n : ℕ) (homes : List ℕ) (ports : Ports) (names : ℕ → ℕ → ℕ) (l : Chain) (h : Holds n ports names l) (c : ℕ)
+module _ (n : ℕ) (homes : List ℕ) (ports : PortChoice) (names : ℕ → ℕ → ℕ) (l : Chain) (h : Holds n ports names l)
+    (c : ℕ)
     (call : Call)
     (sits : (d : ℕ) → (l.seats d).home < n → d < length homes)
     (free : (length (l.seats c).calls == length (l.seats c).got) ≡ true)

@@ -1,7 +1,8 @@
 -- How often a port stands at a server: in its open calls, and in replies. A step puts it nowhere else: the replies that
 -- it puts out at the port, and the calls that are open there then, are together no more than those that were open there
 -- and the input's own.
-use Rattle.std.proofs.Common.{◌≡◌, ℕ, ◌+◌, ◌≤◌, Bool, true, false, cond, List, [], ◌∷◌, ◌++◌, length, Option, None, Some}
+use Rattle.std.proofs.Common.{◌≡◌, ℕ, ◌+◌, ◌≤◌, Bool, true, false, cond, List, [], ◌∷◌, ◌++◌, length, Option, None}
+use Rattle.std.proofs.Common.{Some}
 use Rattle.std.proofs.Common.{refl, arith, ap, ◌∙◌, length-append}
 use Rattle.std.specs.Prelude.{◌&&◌, ◌==◌, nat_lt, nat_le, not}
 use Rattle.table.specs.Operations.{is_update}

@@ -17,7 +17,8 @@ use Rattle.interleavings.specs.Moves.{Move, Sends, Takes, Publishes, Puts, Arriv
 use Rattle.interleavings.specs.Moves.{Notices, is_free, brought, sent, received, looked, taking, publishing, put}
 use Rattle.interleavings.specs.Moves.{arrived, has_stopped, done}
 use Rattle.interleavings.specs.OwnPorts.{port_at, sent_from, with_own_ports}
-use Rattle.interleavings.proofs.ports.RenamedChains.{Same, SameUnder, of_chain, seat_there, same_server, same_channel, same_seat}
+use Rattle.interleavings.proofs.ports.RenamedChains.{Same, SameUnder, of_chain, seat_there, same_server, same_channel}
+use Rattle.interleavings.proofs.ports.RenamedChains.{same_seat}
 use Rattle.interleavings.proofs.ports.RenamedChains.{same_brought}
 use Rattle.interleavings.proofs.ports.RenamedServers.{running_renamed, sender_at, messages_renamed}
 use Rattle.interleavings.proofs.ports.RenamedServers.{without_message_renamed}
@@ -155,7 +156,8 @@ module _ (n : ℕ) (homes : List ℕ) {names : ℕ → ℕ → ℕ} (l g : Chain
 
   pub arrives_same : (i j : ℕ) → SameUnder n homes names (done l (Arrives i j)) (done g (Arrives i j))
   arrives_same i j =
-      subst (λ (ws : ℕ → ℕ → List Peer). SameUnder n homes names (arrived l i j (l.channels i j)) (arrived g i j (ws i j)))
+      subst (λ (ws : ℕ → ℕ → List Peer). SameUnder n homes names (arrived l i j (l.channels i j)) (arrived g i j
+      (ws i j)))
       (sym h.channels) (arrived_same i j (l.channels i j))
 
   pub stops_same : (i : ℕ) → SameUnder n homes names (done l (Stops i)) (done g (Stops i))
@@ -167,7 +169,8 @@ module _ (n : ℕ) (homes : List ℕ) {names : ℕ → ℕ → ℕ} (l g : Chain
   notices_same i j =
       let same : has_stopped g j ≡ has_stopped l j =
       ap (λ k. nat_lt j k && (g.servers j).stopped) h.count ∙ ap (λ b. nat_lt j l.count && b) (h.stopped j) in
-      subst (λ b. SameUnder n homes names (cond (has_stopped l j) (brought l i (Gone j)) l) (cond b (brought g i (Gone j)) g))
+      subst (λ b. SameUnder n homes names (cond (has_stopped l j) (brought l i (Gone j)) l) (cond b (brought g i
+      (Gone j)) g))
       (sym same)
       (where_true (has_stopped l j) (brought l i (Gone j)) (brought g i (Gone j))
       (λ there. same_brought n homes l g h i (Gone j) (Gone j) (λ within. refl)))

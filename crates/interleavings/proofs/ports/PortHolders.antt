@@ -10,7 +10,7 @@ use Rattle.node.specs.declared.messages.Peer.{Peer}
 use Rattle.interleavings.specs.Chains.{RunningServer, Seat, Chain, with_at, with_running, with_channel, with_seat}
 use Rattle.interleavings.specs.Chains.{opening_chain, calls_from}
 use Rattle.interleavings.specs.Moves.{brought}
-use Rattle.interleavings.specs.FreePorts.{Ports, port_now, awaits_reply, has_port, is_free_port}
+use Rattle.interleavings.specs.FreePorts.{PortChoice, port_now, awaits_reply, has_port, is_free_port}
 use Rattle.interleavings.proofs.lists.ChangedFunctions.{at_other, at_same}
 use Rattle.interleavings.proofs.ports.StandingPorts.{standing, input_standing}
 
@@ -18,7 +18,7 @@ use Rattle.interleavings.proofs.ports.StandingPorts.{standing, input_standing}
 abbrev pub Counts : Seat → Type 0
 Counts s = (length s.got + length s.queued ≤ length s.calls) × (length s.calls ≤ length s.got + 1)
 
-module _ (n : ℕ) (ports : Ports) where
+module _ (n : ℕ) (ports : PortChoice) where
   -- the seat that has this port of server i
   pub record Holder (l : Chain) (i p : ℕ) : Type 0 where
     pub seat : ℕ
@@ -141,7 +141,7 @@ free_waits_not s e =
     (let same : length s.calls ≡ length s.got = eqb-true (length s.calls) (length s.got) e in omega (arith, same))
 
 -- a port that is free is nobody's
-pub free_is_not : (ports : Ports) (l : Chain) (i p m : ℕ) (c : ℕ)
+pub free_is_not : (ports : PortChoice) (l : Chain) (i p m : ℕ) (c : ℕ)
     → is_free_port ports l i p m ≡ true
     → c < m
     → (l.seats c).home ≡ i
@@ -153,7 +153,12 @@ free_is_not ports l i p (suc m) c free below home awaits port =
     let both = and_parts (not (has_port ports l i p m)) (is_free_port ports l i p m) free in
     elim (cases_eq c m) [
       | inl last ↦
-          let has : has_port ports l i p c ≡ true = rw (eq-eqb (l.seats c).home i home, awaits, eq-eqb (port_now ports l c) p port) refl in
+          let has : has_port ports l i p c ≡ true = rw (
+            eq-eqb (l.seats c).home i home,
+            awaits,
+            eq-eqb
+                (port_now ports l c) p port,
+          ) refl in
           both_ways _ (ap (has_port ports l i p) last ∙ not-true (has_port ports l i p m) both.0) has
       | inr other ↦ free_is_not ports l i p m c both.1 (omega (arith, below, other)) home awaits port
     ]

@@ -100,7 +100,8 @@ module _ (n : ℕ) (homes : List ℕ) {names : ℕ → ℕ → ℕ} (l g : Chain
   }
 
   -- a channel does,
-  pub same_channel : (i j : ℕ) (ms : List Peer) → SameUnder n homes names (with_channel l i j ms) (with_channel g i j ms)
+  pub same_channel : (i j : ℕ) (ms : List Peer) → SameUnder n homes names (with_channel l i j ms)
+      (with_channel g i j ms)
   same_channel i j ms = record {
     count = h.count;
     servers = h.servers;
@@ -112,7 +113,8 @@ module _ (n : ℕ) (homes : List ℕ) {names : ℕ → ℕ → ℕ} (l g : Chain
   }
 
   -- and a seat that stays at its server
-  pub same_seat : (c : ℕ) (s : Seat) → s.home ≡ (l.seats c).home → SameUnder n homes names (with_seat l c s) (with_seat g c s)
+  pub same_seat : (c : ℕ) (s : Seat) → s.home ≡ (l.seats c).home → SameUnder n homes names (with_seat l c s)
+      (with_seat g c s)
   same_seat c s stays = record {
     count = h.count;
     servers = h.servers;

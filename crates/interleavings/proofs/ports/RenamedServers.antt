@@ -100,7 +100,7 @@ module _ (f : ℕ → ℕ) (apart : (p q : ℕ) → f p ≡ f q → p ≡ q) whe
   is_of_renamed OfNotices (From k m) = refl
   is_of_renamed OfNotices (Gone k) = refl
 
-  first_renamed : (s : Sender) (xs : List Input)
+  pub first_renamed : (s : Sender) (xs : List Input)
       → first_of (sender_at f s) (map (input_at f) xs) ≡ option_map (input_at f) (first_of s xs)
   first_renamed s [] = refl
   first_renamed s (x ∷ xs) =

@@ -115,9 +115,21 @@ module _ (f g : ℕ → ℕ) where
       ≡ length (calls_from p (listed s.unpublished)) + length (calls_from p s.inbox) = λ p.
       ap length (calls_from-append p (listed s.unpublished) s.inbox)
       ∙ length-append (calls_from p (listed s.unpublished)) (calls_from p s.inbox) in
-      ap (λ us. record (running_renamed f s) { node = record s.node { pend = us; asks = map (read_with_port f) s.node.asks } })
+      ap (λ us. record (running_renamed f s) {
+        node = record s.node {
+          pend = us;
+          asks = map
+              (read_with_port f) s.node.asks;
+        };
+      })
       (updates_agree s.node.pend (λ p e. h p (omega (arith, e))))
-      ∙ ap (λ rs. record (running_renamed f s) { node = record s.node { pend = map (with_port g) s.node.pend; asks = rs } })
+      ∙ ap (λ rs. record (running_renamed f s) {
+        node = record s.node {
+          pend = map
+              (with_port g) s.node.pend;
+          asks = rs;
+        };
+      })
       (reads_agree s.node.asks (λ p e. h p (omega (arith, e))))
       ∙ ap (λ xs. record (running_renamed f s) { node = renamed g s.node; inbox = xs })
       (inputs_agree s.inbox (λ p e. h p (omega (arith, e, queued p))))
@@ -220,4 +232,5 @@ module _ (p : ℕ) where
       → (p ≡ q → ⊥)
       → standing p (record s { outbox = without_reply q s.outbox }) ≡ standing p s
   other_standing q s apart =
-      ap (λ rs. length (calls_from p (queue s)) + open_there p s.node + length rs) (others_without_reply q p s.outbox apart)
+      ap (λ rs. length (calls_from p (queue s)) + open_there p s.node + length rs)
+      (others_without_reply q p s.outbox apart)

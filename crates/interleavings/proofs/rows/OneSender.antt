@@ -1,4 +1,5 @@
--- The updates of a row are published in turn, if its seats send by one sender and each sender's calls are taken in order.
+-- The updates of a row are published in turn, if its seats send by one sender and each sender's calls are taken in
+-- order.
 use Rattle.std.proofs.Common.{◌≡◌, ℕ, zero, suc, ◌+◌, ◌<◌, ◌≤◌, Bool, true, false, cond, List, [], ◌∷◌, ◌++◌, length}
 use Rattle.std.proofs.Common.{take, Option, None, Some, refl, arith, ap, sym, ◌∙◌, subst, ◌⊎◌, inl, inr, length-append}
 use Rattle.std.specs.Prelude.{slice_get, slice_index_or, is_some, IsSome, not, ◌&&◌}
@@ -26,11 +27,13 @@ use Rattle.interleavings.specs.OtherMoves.{is_published_from}
 use Rattle.interleavings.specs.Connections.{made}
 use Rattle.interleavings.specs.ServingMoves.{ServingChain, ServingMove, Reads, Begins, Asks, Peeks, Refuses, Answers}
 use Rattle.interleavings.specs.ServingMoves.{Writes, Ends, Runs, served_at, refusing, key_due, look_reply, is_of_seat}
-use Rattle.interleavings.specs.ServingMoves.{opening_serving, asking, peeked, peeking, answering, served_by, served_from}
+use Rattle.interleavings.specs.ServingMoves.{opening_serving, asking, peeked, peeking, answering, served_by}
+use Rattle.interleavings.specs.ServingMoves.{served_from}
 use Rattle.interleavings.specs.ServingMoves.{served}
 use Rattle.interleavings.specs.Served.{CallName, call_made, ServedCall, IsOneOrder, IsServedInTurn}
 use Rattle.interleavings.specs.Served.{id_at_seat, is_call_published, IsMadeUpdate}
-use Rattle.interleavings.specs.Rows.{PartName, part_at, part_of, IsPart, IsBefore, IsRow, IsPublishedInTurn, IsRowInTurn}
+use Rattle.interleavings.specs.Rows.{PartName, part_at, part_of, IsPart, IsBefore, IsRow, IsPublishedInTurn}
+use Rattle.interleavings.specs.Rows.{IsRowInTurn}
 use Rattle.interleavings.specs.Senders.{Senders, AreTakenInOrder, HaveOneSender}
 use Rattle.interleavings.proofs.lists.ChangedFunctions.{at_other, at_same}
 use Rattle.interleavings.proofs.relation.Published.{each_keeps}
@@ -312,7 +315,8 @@ module _ (senders : Senders) (count : ℕ) (homes : List ℕ) (moves : List Serv
       let now = (front_grows k).calls w.seat w.number w.ordinal call m.0 in
       let same = same_ordinal (front k) last w call (front_ordered k) (front_grows k) m.0 ∙ m.1 in
       let is : z ≡ w =
-      sym (named_there last ordered z later made) ∙ ap (name_of last) (sym same) ∙ named_there last ordered w call now in
+      sym (named_there last ordered z later made) ∙ ap (name_of last) (sym same)
+      ∙ named_there last ordered w call now in
       ap (call_made (front k)) is ∙ m.0
 
   id_is : (k : ℕ) (z : CallName) (call : Call)
@@ -324,7 +328,8 @@ module _ (senders : Senders) (count : ℕ) (homes : List ℕ) (moves : List Serv
   -- the chain stays, or makes a move that takes the first call of a sender
   change : (k : ℕ)
       → ((front (suc k)).chain ≡ (front k).chain)
-      ⊎ ((mv : Move) × ((front (suc k)).chain ≡ done (front k).chain mv) × TakesFirst senders one.sender (front k).chain mv)
+      ⊎ ((mv : Move) × ((front (suc k)).chain ≡ done (front k).chain mv) × TakesFirst senders one.sender
+      (front k).chain mv)
   change k = by (one_step moves (opening_serving count homes) k)
     where
       of : (m : ServingMove)
@@ -524,7 +529,8 @@ module _ (senders : Senders) (count : ℕ) (homes : List ℕ) (moves : List Serv
     passed (suc k) now = by (change k) (passed k)
       where
         by : ((front (suc k)).chain ≡ (front k).chain)
-            ⊎ ((mv : Move) × ((front (suc k)).chain ≡ done (front k).chain mv) × TakesFirst senders one.sender (front k).chain mv)
+            ⊎ ((mv : Move) × ((front (suc k)).chain ≡ done (front k).chain mv) × TakesFirst senders one.sender
+            (front k).chain mv)
             → (Y < length ((front k).chain.seats y.seat).calls
             → Passed senders one.sender x.seat y.seat r.server X Y (front k).chain (Receives 0) (front k).chain)
             → Passed senders one.sender x.seat y.seat r.server X Y (front (suc k)).chain (Receives 0)
@@ -588,14 +594,16 @@ module _ (senders : Senders) (count : ℕ) (homes : List ℕ) (moves : List Serv
             let made = x_made k (omega (arith, after)) in
             let m = some_of (call_made (front k) x) made in
             let w = waits_x k in
-            and_from (is_some (call_made (front k) x)) (is_published_from (λ e. e) (front k).chain (id_at_seat (front k) x))
+            and_from (is_some (call_made (front k) x)) (is_published_from (λ e. e) (front k).chain (id_at_seat
+            (front k) x))
             made
             (ap (is_published_from (λ e. e) (front k).chain) (id_is k x m.0 m.1)
             ∙ lt-ltb (X + length (waiting_calls (front k).chain x.seat))
             (length ((front k).chain.seats x.seat).calls) (omega (arith, w, less)))
 
         by : ((front (suc k)).chain ≡ (front k).chain)
-            ⊎ ((mv : Move) × ((front (suc k)).chain ≡ done (front k).chain mv) × TakesFirst senders one.sender (front k).chain mv)
+            ⊎ ((mv : Move) × ((front (suc k)).chain ≡ done (front k).chain mv) × TakesFirst senders one.sender
+            (front k).chain mv)
             → is_call_published (λ e. e) (front k) x ≡ true
         by (inl same) =
             let n = ap (λ (l : Chain). length (l.seats y.seat).calls) same in

@@ -125,7 +125,10 @@ module _ (l : Chain) (c : ℕ) where
       by true rs = refl
       by false [] = refl
       by false (r ∷ rs) =
-          kept_at (λ (t : Seat). t.calls) l.seats d (record (l.seats d) { queued = (l.seats d).queued ++ r ∷ [] }) refl c
+          kept_at (λ (t : Seat). t.calls) l.seats d (record (l.seats d) {
+            queued =
+                (l.seats d).queued ++ r ∷ [];
+          }) refl c
   calls_change (Receives d) = NoneBegun (by (l.seats d).queued)
     where
       by : (rs : List Reply) → ((received l d (l.seats d) rs).seats c).calls ≡ (l.seats c).calls
@@ -220,8 +223,9 @@ module _ (senders : Senders) (g : ℕ) (c d : ℕ) where
     abbrev pub Passed : Chain → Type 0
     Passed k = (X + times senders g c (there k) < begun k c) ⊎ (leads (there k) ≡ true)
 
-    -- What holds before the move: the seats' server and sender; that a seat that is free waits for nothing, and one call
-    -- of a seat waits at most; that the first call of a sender is taken; that X is begun before Y; and that Y is no read.
+    -- What holds before the move: the seats' server and sender; that a seat that is free waits for nothing, and one
+    -- call of a seat waits at most; that the first call of a sender is taken; that X is begun before Y; and that Y is
+    -- no read.
     pub record Ready : Type 0 where
       pub own : senders d ≡ g
       pub home : (l.seats d).home ≡ i
@@ -333,12 +337,14 @@ module _ (senders : Senders) (g : ℕ) (c d : ℕ) where
                 | inr none ↦ Kept (AsBefore (ap (λ k. sent_at senders g k i) (chain_is true f) ∙ none))
               ]
       queue_change (Takes j x) is =
-          Kept (each_less senders g l m i r.first (λ e call f. (let no : Takes j x ≡ Sends e call = sym is ∙ f in absurd cc)))
+          Kept (each_less senders g l m i r.first (λ e call f. (let no : Takes j x ≡ Sends e call = sym is
+          ∙ f in absurd cc)))
       queue_change (Publishes j) is =
           Kept (each_less senders g l m i r.first
           (λ e call f. (let no : Publishes j ≡ Sends e call = sym is ∙ f in absurd cc)))
       queue_change (Puts j k) is =
-          Kept (each_less senders g l m i r.first (λ e call f. (let no : Puts j k ≡ Sends e call = sym is ∙ f in absurd cc)))
+          Kept (each_less senders g l m i r.first (λ e call f. (let no : Puts j k ≡ Sends e call = sym is
+          ∙ f in absurd cc)))
       queue_change (Arrives j k) is =
           Kept (each_less senders g l m i r.first
           (λ e call f. (let no : Arrives j k ≡ Sends e call = sym is ∙ f in absurd cc)))
@@ -352,7 +358,8 @@ module _ (senders : Senders) (g : ℕ) (c d : ℕ) where
           Kept (each_less senders g l m i r.first
           (λ e call f. (let no : Looks j key ≡ Sends e call = sym is ∙ f in absurd cc)))
       queue_change (Stops j) is =
-          Kept (each_less senders g l m i r.first (λ e call f. (let no : Stops j ≡ Sends e call = sym is ∙ f in absurd cc)))
+          Kept (each_less senders g l m i r.first (λ e call f. (let no : Stops j ≡ Sends e call = sym is
+          ∙ f in absurd cc)))
       queue_change (Notices j k) is =
           Kept (each_less senders g l m i r.first
           (λ e call f. (let no : Notices j k ≡ Sends e call = sym is ∙ f in absurd cc)))

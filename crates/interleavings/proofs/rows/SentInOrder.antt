@@ -1,7 +1,8 @@
 -- What stands of one sender's calls in a server's queue: each move leaves it, or sends one more, at the end, or
 -- publishes the first one. That holds if the sender's calls are taken in order.
 use Rattle.std.proofs.Common.{◌≡◌, ◌≢◌, ℕ, ◌+◌, Bool, true, false, cond, List, [], ◌∷◌, ◌++◌, length, Option}
-use Rattle.std.proofs.Common.{None, Some, refl, arith, ap, sym, ◌∙◌, subst, ◌⊎◌, inl, inr, eq-eqb, append_assoc, append-nil}
+use Rattle.std.proofs.Common.{None, Some, refl, arith, ap, sym, ◌∙◌, subst, ◌⊎◌, inl, inr, eq-eqb, append_assoc}
+use Rattle.std.proofs.Common.{append-nil}
 use Rattle.std.specs.Prelude.{not, ◌&&◌, ◌==◌, is_some, IsSome}
 use Rattle.std.proofs.lemmas.Bool.{cases_eq, ne_eqb, eqb-true, cond_both}
 use Rattle.std.proofs.lemmas.Option.{same_Some}
@@ -164,7 +165,8 @@ module _ (senders : Senders) (g : ℕ) where
   took_in_order : (s : RunningServer) (x : Sender) (o : Option Input)
       → first_of x s.inbox ≡ o
       → s.unpublished ≡ None
-      → ((c : ℕ) → x ≡ OfSeat c → IsSome (first_of (OfSeat c) s.inbox) → first_seat senders (senders c) s.inbox ≡ Some c)
+      → ((c : ℕ) → x ≡ OfSeat c → IsSome (first_of (OfSeat c) s.inbox) → first_seat senders (senders c) s.inbox
+      ≡ Some c)
       → seats_of (queue (took s x o)) ≡ seats_of (queue s)
   took_in_order s x None e free order = refl
   took_in_order s (OfServer j) (Some input) e free order =
@@ -200,7 +202,8 @@ module _ (senders : Senders) (g : ℕ) where
           same_seat c d f = ap seat_or f
 
   pub taking_in_order : (s : RunningServer) (x : Sender)
-      → ((c : ℕ) → x ≡ OfSeat c → IsSome (first_of (OfSeat c) s.inbox) → first_seat senders (senders c) s.inbox ≡ Some c)
+      → ((c : ℕ) → x ≡ OfSeat c → IsSome (first_of (OfSeat c) s.inbox) → first_seat senders (senders c) s.inbox
+      ≡ Some c)
       → seats_of (queue (taking s x)) ≡ seats_of (queue s)
   taking_in_order s x order =
       let t = took s x (first_of x s.inbox) in

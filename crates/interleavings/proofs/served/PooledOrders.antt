@@ -8,19 +8,23 @@ use Rattle.table.specs.declared.operations.Reply.{Reply}
 use Rattle.world.proofs.lists.Standing.{get_within, some_of}
 use Rattle.interleavings.specs.Chains.{Seat}
 use Rattle.interleavings.specs.Moves.{done}
-use Rattle.interleavings.specs.FreePorts.{Ports}
+use Rattle.interleavings.specs.FreePorts.{PortChoice}
 use Rattle.interleavings.specs.Connections.{Connection, waits, may_have}
 use Rattle.interleavings.specs.ServingMoves.{ServingChain, ServingMove, served_at, opening_serving, served}
-use Rattle.interleavings.specs.Served.{IsServed, IsRested, HasAll, CallName, call_made, reply_got, ServedCall, ComesBefore}
+use Rattle.interleavings.specs.Served.{IsServed, IsRested, HasAll, CallName, call_made, reply_got, ServedCall}
+use Rattle.interleavings.specs.Served.{ComesBefore}
 use Rattle.interleavings.specs.Served.{IsOneOrder, id_at_seat, is_call_published, PublishedFirst}
-use Rattle.interleavings.specs.Pools.{opening_pooled, PooledMove, pooled, ComesBeforePooled, IsOneOrderPooled, is_call_published_at}
-use Rattle.interleavings.specs.Pools.{PublishedFirstPooled, IsServedInTurnPooled, IsServingQuiet, NoneOpen, ServedHaveAll}
+use Rattle.interleavings.specs.Pools.{opening_pooled, PooledMove, pooled, ComesBeforePooled, IsOneOrderPooled}
+use Rattle.interleavings.specs.Pools.{is_call_published_at}
+use Rattle.interleavings.specs.Pools.{PublishedFirstPooled, IsServedInTurnPooled, IsServingQuiet, NoneOpen}
+use Rattle.interleavings.specs.Pools.{ServedHaveAll}
+use Rattle.interleavings.specs.Served.{IsServedInTurn}
 use Rattle.interleavings.proofs.ports.FreePortRuns.{published_same, nothing_there, on_there}
 use Rattle.interleavings.proofs.served.Kinds.{first_fits}
 use Rattle.interleavings.proofs.served.OneOrder.{each_is_served, one_order, answered_there, has_all_there}
 use Rattle.interleavings.proofs.served.PooledRuns.{Behind, followed}
 
-module _ (n : ℕ) (homes : List ℕ) (ports : Ports) (moves : List PooledMove) where
+module _ (n : ℕ) (homes : List ℕ) (ports : PortChoice) (moves : List PooledMove) where
   abbrev last : ServingChain
   last = pooled n homes ports moves
 
@@ -41,15 +45,16 @@ module _ (n : ℕ) (homes : List ℕ) (ports : Ports) (moves : List PooledMove) 
 
   before_too : (x y : CallName) → ComesBeforePooled ports n homes moves x y → ComesBefore done n homes others x y
   before_too x y p =
-      let same = (there.stands p.k).connections in
+      let same = (there.stands p.k).same.connections in
       record {
         k = p.k;
-        answered = subst (λ (f : ℕ → ℕ → Connection). IsSome (slice_get (f x.seat x.number).replies x.ordinal)) (sym same)
+        answered = subst (λ (f : ℕ → ℕ → Connection). IsSome (slice_get (f x.seat x.number).replies x.ordinal))
+            (sym same)
             p.answered;
         not_made = ap (λ (f : ℕ → ℕ → Connection). slice_get (f y.seat y.number).calls y.ordinal) same ∙ p.not_made;
       }
 
-  order_too : (h : List ServedCall) → IsOneOrder done n homes others h → IsOneOrderPooled ports n homes moves h
+  pub order_too : (h : List ServedCall) → IsOneOrder done n homes others h → IsOneOrderPooled ports n homes moves h
   order_too h o = record {
     legal = o.legal;
     made = λ i e here. sym (made_same e.id) ∙ o.made i e here;
@@ -64,7 +69,7 @@ module _ (n : ℕ) (homes : List ℕ) (ports : Ports) (moves : List PooledMove) 
       → is_call_published (λ c. c) (served done n homes (take k others)) x
       ≡ is_call_published_at ports (pooled n homes ports (take k moves)) x
   published_then k x i here within =
-      let a = there.stands k in
+      let a = (there.stands k).same in
       let s = pooled n homes ports (take k moves) in
       let u = served done n homes (take k others) in
       let home : i ≡ (s.chain.seats x.seat).home =
@@ -88,6 +93,11 @@ module _ (n : ℕ) (homes : List ℕ) (ports : Ports) (moves : List PooledMove) 
     later_update = (p.later_update.0, made_same y ∙ p.later_update.1, p.later_update.2);
   }
 
+  pub turn_too : (h : List ServedCall)
+      → IsServedInTurn done (λ c. c) n homes others h
+      → IsServedInTurnPooled ports n homes moves h
+  turn_too h o = record { in_turn = λ x y j p s. o.in_turn x y j (first_too x y p) s; own = o.own }
+
   -- there is one order, in turn,
   pub one_order_pooled : n ≤ 16
       → (h : List ServedCall) × IsOneOrderPooled ports n homes moves h × IsServedInTurnPooled ports n homes moves h
@@ -95,14 +105,14 @@ module _ (n : ℕ) (homes : List ℕ) (ports : Ports) (moves : List PooledMove) 
       let o = one_order n homes others few in (
         o.0,
         order_too o.0 o.1,
-        record { in_turn = λ x y j p s. o.2.in_turn x y j (first_too x y p) s; own = o.2.own },
+        turn_too o.0 o.2,
       )
 
   -- some run of the other chain shows the same connections, after each move,
   pub shows_same : (ms : List ServingMove) × (length ms ≡ length moves)
       × ((k : ℕ)
       → (served done n homes (take k ms)).connections ≡ (pooled n homes ports (take k moves)).connections)
-  shows_same = (others, there.long, λ k. (there.stands k).connections)
+  shows_same = (others, there.long, λ k. (there.stands k).same.connections)
 
   -- each connection got what its bytes ask for,
   pub each_served : (c k : ℕ) → IsServed ((pooled n homes ports moves).connections c k)

@@ -1,7 +1,8 @@
 -- A chain that serves connections whose calls take free ports, and the one with the seats' numbers as ports, which
 -- serves the same connections.
 use Rattle.std.proofs.Common.{◌≡◌, ◌≢◌, ℕ, zero, suc, ◌+◌, Bool, true, false, cond, List, [], ◌∷◌, ◌++◌}
-use Rattle.std.proofs.Common.{length, take, Option, None, Some, refl, arith, ap, sym, ◌∙◌, subst, inl, inr, length-append}
+use Rattle.std.proofs.Common.{length, take, Option, None, Some, refl, arith, ap, sym, ◌∙◌, subst, inl, inr}
+use Rattle.std.proofs.Common.{length-append}
 use Rattle.std.specs.Prelude.{◌&&◌, not, ◌==◌}
 use Rattle.std.proofs.lemmas.Bool.{cases_eq, cases_Bool, both_ways, and_parts, le-ltb, ltb-true, ltb-false}
 use Rattle.std.proofs.lemmas.Bool.{ne_eqb, not-true}
@@ -16,9 +17,10 @@ use Rattle.node.specs.Faces.{face_of, look_at}
 use Rattle.proto.specs.Turns.{is_store}
 use Rattle.interleavings.specs.Chains.{Seat, Chain, with_at, with_seat, messages_to, replies_to}
 use Rattle.interleavings.specs.Moves.{Move, Sends, Takes, Publishes, Puts, Arrives, Replies, Receives, Looks, Stops}
-use Rattle.interleavings.specs.Moves.{Notices, is_free, read_of, brought, received, looked, put, arrived, has_stopped, done}
+use Rattle.interleavings.specs.Moves.{Notices, is_free, read_of, brought, received, looked, put, arrived, has_stopped}
+use Rattle.interleavings.specs.Moves.{done}
 use Rattle.interleavings.specs.OwnPorts.{reply_put_from}
-use Rattle.interleavings.specs.FreePorts.{Ports, port_now, awaits_reply, has_port, is_free_port, with_free_ports}
+use Rattle.interleavings.specs.FreePorts.{PortChoice, port_now, awaits_reply, has_port, is_free_port, with_free_ports}
 use Rattle.interleavings.specs.Connections.{Connection, made, answered, refused, waits, may_have}
 use Rattle.interleavings.specs.ServingMoves.{ServingChain, ServingMove, Reads, Begins, Asks, Peeks, Refuses, Answers}
 use Rattle.interleavings.specs.ServingMoves.{Writes, Ends, Runs, served_at, with_served, refusing, key_due, look_reply}
@@ -30,6 +32,17 @@ use Rattle.interleavings.proofs.lists.ChangedFunctions.{at_other, at_same}
 use Rattle.interleavings.proofs.ports.FreePortMoves.{Alike, follows, sends_alike, receives_alike, looks_alike}
 use Rattle.interleavings.proofs.ports.FreePortRuns.{opening_alike}
 use Rattle.interleavings.proofs.served.OwnPortServing.{look_alike}
+use Rattle.std.proofs.Common.{◌<◌}
+use Rattle.std.specs.Prelude.{slice_get, is_some}
+use Rattle.std.proofs.lemmas.Bool.{cases_lt}
+use Rattle.std.proofs.lemmas.Option.{same_Some}
+use Rattle.interleavings.specs.Chains.{RunningServer, Sender, OfSeat, OfServer, OfNotices, with_running, first_of}
+use Rattle.interleavings.specs.Moves.{taking, took}
+use Rattle.interleavings.proofs.lists.ChangedFunctions.{at_self}
+use Rattle.interleavings.proofs.ports.OwnPortMoves.{takes_same}
+use Rattle.interleavings.proofs.ports.PortHolders.{holds_server}
+use Rattle.interleavings.proofs.ports.RenamedServers.{sender_at}
+use Rattle.interleavings.proofs.ports.StandingPorts.{taking_standing}
 
 -- ---- whose reply was put awaits none from then on, until the seat sends once more
 
@@ -42,7 +55,7 @@ still_put s reply e =
     le-ltb (length s.got + length (s.queued ++ reply ∷ [])) (length s.calls)
     (omega (arith, least, length-append s.queued (reply ∷ [])))
 
-module _ (homes : List ℕ) (ports : Ports) (l : Chain) (d : ℕ) (before : awaits_reply (l.seats d) ≡ false) where
+module _ (homes : List ℕ) (ports : PortChoice) (l : Chain) (d : ℕ) (before : awaits_reply (l.seats d) ≡ false) where
   other_seat : (c : ℕ) (s : Seat)
       → (d ≡ c → awaits_reply s ≡ false)
       → awaits_reply (with_at l.seats c s d) ≡ false
@@ -100,7 +113,8 @@ module _ (homes : List ℕ) (ports : Ports) (l : Chain) (d : ℕ) (before : awai
   sends_still c call other =
       let s : Seat = record (l.seats c) { calls = (l.seats c).calls ++ call ∷ [] } in
       let x = brought (with_seat l c s) (l.seats c).home _ in
-      either (is_free_port ports l (l.seats c).home (port_now ports l c) (length homes)) (cond (is_free (l.seats c)) x l) l
+      either (is_free_port ports l (l.seats c).home (port_now ports l c) (length homes)) (cond (is_free
+      (l.seats c)) x l) l
       (either (is_free (l.seats c)) x l (ap awaits_reply (at_other l.seats c s d other) ∙ before) before) before
 
   -- a reply that is taken,
@@ -138,10 +152,27 @@ module _ (homes : List ℕ) (ports : Ports) (l : Chain) (d : ℕ) (before : awai
           (subst (λ x. awaits_reply (l.seats x) ≡ false) same before) in
           le-ltb (length s.got + length s.queued) (length s.calls) (omega (arith, least, calls, got)))
 
+-- the move of the chain
+abbrev inner : ServingMove → Move
+inner (Runs m) = m
+inner m = Receives 0
+
+-- at which server it takes a call, and of which seat
+abbrev taken_at : ServingMove → ℕ
+taken_at (Runs (Takes j y)) = j
+taken_at m = 0
+
+abbrev taken_of : ServingMove → ℕ
+taken_of (Runs (Takes j (OfSeat c))) = c
+taken_of m = 0
+
+inside_of : (m : Move) (i c : ℕ) → Runs m ≡ Runs (Takes i (OfSeat c)) → m ≡ Takes i (OfSeat c)
+inside_of m i c e = ap inner e
+
 -- ---- the two chains
 
 -- no seat holds the port that awaits a reply there, if none holds it at all
-none_awaits : (ports : Ports) (s : PooledServing) (i p m : ℕ)
+pub none_awaits : (ports : PortChoice) (s : PooledServing) (i p m : ℕ)
     → ((c : ℕ) → s.collected c ≡ true → awaits_reply (s.serving.chain.seats c) ≡ false)
     → none_holds ports s i p m ≡ true
     → is_free_port ports s.serving.chain i p m ≡ true
@@ -168,7 +199,7 @@ none_awaits ports s i p (suc m) quiet none =
         ] in
         rw (first.0, busy, kept, both.1) refl
 
-module _ (n : ℕ) (homes : List ℕ) (ports : Ports) where
+module _ (n : ℕ) (homes : List ℕ) (ports : PortChoice) where
   abbrev own : Chain → Move → Chain
   own = with_free_ports homes ports
 
@@ -180,10 +211,14 @@ module _ (n : ℕ) (homes : List ℕ) (ports : Ports) where
     pub connections : u.connections ≡ s.serving.connections
     pub put : (c : ℕ) → s.collected c ≡ true → awaits_reply (s.serving.chain.seats c) ≡ false
 
-  -- some move makes of u what stands for s
-  record Goes (s : PooledServing) (u : ServingChain) : Type 0 where
-    move : ServingMove
-    same : SamePooled s (served_by done u move)
+  -- Some move makes of u what stands for s; and it takes a call of a seat only if the move m takes one from a port that
+  -- has this seat's number as its name.
+  pub record Goes (names : ℕ → ℕ → ℕ) (m : PooledMove) (s : PooledServing) (u : ServingChain) : Type 0 where
+    pub move : ServingMove
+    pub takes : (i c : ℕ)
+        → move ≡ Runs (Takes i (OfSeat c))
+        → (i < n) × ((p : ℕ) × (m ≡ Serves (Runs (Takes i (OfSeat p)))) × (names i p ≡ c))
+    pub same : SamePooled s (served_by done u move)
 
   module _ (s : PooledServing) (g : Chain) (a : Alike n homes ports s.serving.chain g)
       (put : (c : ℕ) → s.collected c ≡ true → awaits_reply (s.serving.chain.seats c) ≡ false) where
@@ -199,8 +234,21 @@ module _ (n : ℕ) (homes : List ℕ) (ports : Ports) where
     still : SamePooled s other
     still = record { chains = a; ended = refl; connections = refl; put = put }
 
-    nothing : Goes s other
-    nothing = record { move = Runs (Receives 0); same = still }
+    -- a move that takes no call
+    takes_none : (m : PooledMove) (o : ServingMove)
+        → ((i c : ℕ) → o ≡ Runs (Takes i (OfSeat c)) → ⊥)
+        → (i c : ℕ)
+        → o ≡ Runs (Takes i (OfSeat c))
+        → (i < n) × ((p : ℕ) × (m ≡ Serves (Runs (Takes i (OfSeat p)))) × (a.names i p ≡ c))
+    takes_none m o none i c e = absurd (none i c e)
+
+    nothing : (m : PooledMove) → Goes a.names m s other
+    nothing m = record {
+      move = Runs (Receives 0);
+      takes = takes_none m (Runs (Receives 0))
+          (λ i c e. (let no : Runs (Receives 0) ≡ Runs (Takes i (OfSeat c)) = e in absurd cc));
+      same = still;
+    }
 
     either_same : (b : Bool) (x y : ServingChain) (u v : ServingChain)
         → SamePooled (with_serving x) u
@@ -260,14 +308,20 @@ module _ (n : ℕ) (homes : List ℕ) (ports : Ports) where
         }
         by false e = unasked c
 
-    asks : (c : ℕ) → Goes (serving_by homes ports s (Asks c)) other
+    asks : (c : ℕ) → Goes a.names (Serves (Asks c)) (serving_by homes ports s (Asks c)) other
     asks c = by (may_ask homes ports s c) refl
       where
         by : (b : Bool)
             → may_ask homes ports s c ≡ b
-            → Goes (cond b (asked (asking own s.serving c (served_at s.serving c).due) c) s) other
-        by true e = record { move = Asks c; same = asks_same c e (served_at s.serving c).due }
-        by false e = nothing
+            → Goes a.names (Serves (Asks c)) (cond b (asked (asking own s.serving c (served_at s.serving c).due) c) s)
+            other
+        by true e = record {
+          move = Asks c;
+          takes = takes_none (Serves (Asks c)) (Asks c) (λ i d e. (let no : Asks c ≡ Runs (Takes i
+              (OfSeat d)) = e in absurd cc));
+          same = asks_same c e (served_at s.serving c).due;
+        }
+        by false e = nothing (Serves (Asks c))
 
     peeked_same : (c : ℕ) (key : List ℕ) (reply : Option Reply)
         → SamePooled (with_serving (peeked own s.serving c key reply)) (peeked done other c key reply)
@@ -283,7 +337,8 @@ module _ (n : ℕ) (homes : List ℕ) (ports : Ports) where
         → SamePooled (with_serving (peeking own s.serving c key)) (peeking done other c key)
     peeks_same c None = still
     peeks_same c (Some key) =
-        subst (λ r. SamePooled (with_serving (peeked own s.serving c key (look_reply l c key))) (peeked done other c key r))
+        subst (λ r. SamePooled (with_serving (peeked own s.serving c key (look_reply l c key)))
+        (peeked done other c key r))
         (sym (look_alike n homes l g a.same c key)) (peeked_same c key (look_reply l c key))
 
     refuses_same : (c : ℕ) (due : Option Call)
@@ -308,17 +363,64 @@ module _ (n : ℕ) (homes : List ℕ) (ports : Ports) where
           put = λ d e. receives_still homes ports l d (put d e) c;
         }) still
 
-    runs : (m : Move) → Goes (with_serving (served_by own s.serving (Runs m))) other
-    runs m = by (is_of_seat m) refl
+    -- an input is taken, from a server of the chain
+    takes : (i : ℕ) (x : Sender)
+        → Goes a.names (Serves (Runs (Takes i x))) (with_serving (served_by own s.serving (Runs (Takes i x)))) other
+    takes i x = elim (cases_lt i n) [
+      | inl inside ↦ record {
+        move = Runs (Takes i (sender_at (a.names i) x));
+        takes = taken inside x;
+        same = record {
+          chains = record {
+            names = a.names;
+            same = takes_same n homes l g a.same a.holds.apart i x;
+            holds = holds_server n ports a.names l a.holds i (taking (l.servers i) x)
+                (λ p. (let same = taking_standing p (l.servers i) x in omega (arith, same)));
+          };
+          ended = refl;
+          connections = refl;
+          put = put;
+        };
+      }
+      | inr out ↦
+          let t = l.servers i in
+          let same : with_running l i (taking t x) ≡ l =
+          ap (λ b. with_running l i
+          (cond b t (cond (is_some t.unpublished) t (took t x (first_of x t.inbox))))) (a.same.over i out)
+          ∙ ap (λ (ss : ℕ → RunningServer). record l { servers = ss }) (at_self l.servers i) in
+          subst (λ (k : Chain). Goes a.names (Serves (Runs (Takes i x))) (with_serving (record s.serving { chain = k }))
+          other) (sym same) (nothing (Serves (Runs (Takes i x))))
+    ]
+      where
+        taken : i < n
+            → (x : Sender) (j c : ℕ)
+            → Runs (Takes i (sender_at (a.names i) x)) ≡ Runs (Takes j (OfSeat c))
+            → (j < n) × ((p : ℕ) × (Serves (Runs (Takes i x)) ≡ Serves (Runs (Takes j (OfSeat p)))) × (a.names j p ≡ c))
+        taken inside (OfSeat p) j c e =
+            let at : i ≡ j = ap taken_at e in (
+              subst (λ k. k < n) at inside,
+              (p, ap (λ k. Serves (Runs (Takes k (OfSeat p)))) at, ap (λ k. a.names k p) (sym at) ∙ ap taken_of e),
+            )
+        taken inside (OfServer q) j c e =
+            (let no : Runs (Takes i (OfServer q)) ≡ Runs (Takes j (OfSeat c)) = e in absurd cc)
+        taken inside OfNotices j c e =
+            (let no : Runs (Takes i OfNotices) ≡ Runs (Takes j (OfSeat c)) = e in absurd cc)
+
+    run : (m : Move)
+        → ((j : ℕ) (x : Sender) → m ≡ Takes j x → ⊥)
+        → Goes a.names (Serves (Runs m)) (with_serving (served_by own s.serving (Runs m))) other
+    run m not_taken = by (is_of_seat m) refl
       where
         by : (b : Bool)
             → is_of_seat m ≡ b
-            → Goes (with_serving (cond b s.serving (record s.serving { chain = own s.serving.chain m }))) other
-        by true e = nothing
+            → Goes a.names (Serves (Runs m))
+            (with_serving (cond b s.serving (record s.serving { chain = own s.serving.chain m }))) other
+        by true e = nothing (Serves (Runs m))
         by false e =
             let f = follows n homes ports a.names s.serving.chain g a.same a.holds m in
             record {
               move = Runs f.move;
+              takes = λ i c q. absurd (let t = f.takes i c (inside_of f.move i c q) in not_taken t.0 t.1 t.2);
               same = subst (λ b. SamePooled (with_serving (record s.serving { chain = own s.serving.chain m }))
                   (cond b other (record other { chain = done g f.move }))) (sym (f.servers e))
                   (record {
@@ -329,28 +431,69 @@ module _ (n : ℕ) (homes : List ℕ) (ports : Ports) where
                   });
             }
 
-    serving_goes : (m : ServingMove) → Goes (serving_by homes ports s m) other
-    serving_goes (Reads c piece) = record { move = Reads c piece; same = serves c _ }
-    serving_goes (Begins c) = record { move = Begins c; same = serves c _ }
+    runs : (m : Move) → Goes a.names (Serves (Runs m)) (with_serving (served_by own s.serving (Runs m))) other
+    runs (Takes i x) = takes i x
+    runs (Sends c call) = run (Sends c call) (λ j x e. (let no : Sends c call ≡ Takes j x = e in absurd cc))
+    runs (Publishes i) = run (Publishes i) (λ j x e. (let no : Publishes i ≡ Takes j x = e in absurd cc))
+    runs (Puts i k) = run (Puts i k) (λ j x e. (let no : Puts i k ≡ Takes j x = e in absurd cc))
+    runs (Arrives i k) = run (Arrives i k) (λ j x e. (let no : Arrives i k ≡ Takes j x = e in absurd cc))
+    runs (Replies i c) = run (Replies i c) (λ j x e. (let no : Replies i c ≡ Takes j x = e in absurd cc))
+    runs (Receives c) = run (Receives c) (λ j x e. (let no : Receives c ≡ Takes j x = e in absurd cc))
+    runs (Looks c key) = run (Looks c key) (λ j x e. (let no : Looks c key ≡ Takes j x = e in absurd cc))
+    runs (Stops i) = run (Stops i) (λ j x e. (let no : Stops i ≡ Takes j x = e in absurd cc))
+    runs (Notices i k) = run (Notices i k) (λ j x e. (let no : Notices i k ≡ Takes j x = e in absurd cc))
+
+    serving_goes : (m : ServingMove) → Goes a.names (Serves m) (serving_by homes ports s m) other
+    serving_goes (Reads c piece) = record {
+      move = Reads c piece;
+      takes = takes_none (Serves (Reads c piece)) (Reads c piece) (λ i d e. (let no : Reads c piece ≡ Runs (Takes i
+          (OfSeat d)) = e in absurd cc));
+      same = serves c _;
+    }
+    serving_goes (Begins c) = record {
+      move = Begins c;
+      takes = takes_none (Serves (Begins c)) (Begins c) (λ i d e. (let no : Begins c ≡ Runs (Takes i
+          (OfSeat d)) = e in absurd cc));
+      same = serves c _;
+    }
     serving_goes (Asks c) = asks c
-    serving_goes (Peeks c) = record { move = Peeks c; same = peeks_same c (key_due (served_at s.serving c).due) }
-    serving_goes (Refuses c) = record { move = Refuses c; same = refuses_same c (served_at s.serving c).due }
+    serving_goes (Peeks c) = record {
+      move = Peeks c;
+      takes = takes_none (Serves (Peeks c)) (Peeks c) (λ i d e. (let no : Peeks c ≡ Runs (Takes i
+          (OfSeat d)) = e in absurd cc));
+      same = peeks_same c (key_due (served_at s.serving c).due);
+    }
+    serving_goes (Refuses c) = record {
+      move = Refuses c;
+      takes = takes_none (Serves (Refuses c)) (Refuses c) (λ i d e. (let no : Refuses c ≡ Runs (Takes i
+          (OfSeat d)) = e in absurd cc));
+      same = refuses_same c (served_at s.serving c).due;
+    }
     serving_goes (Answers c) = record {
       move = Answers c;
+      takes = takes_none (Serves (Answers c)) (Answers c) (λ i d e. (let no : Answers c ≡ Runs (Takes i
+          (OfSeat d)) = e in absurd cc));
       same = subst (λ (ss : ℕ → Seat).
-          SamePooled (with_serving (answering own s.serving c (l.seats c).queued)) (answering done other c (ss c).queued))
-          (sym a.same.seats) (answers_same c (l.seats c).queued);
+          SamePooled (with_serving (answering own s.serving c (l.seats c).queued))
+          (answering done other c (ss c).queued)) (sym a.same.seats) (answers_same c (l.seats c).queued);
     }
-    serving_goes (Writes c k) = record { move = Writes c k; same = serves c _ }
+    serving_goes (Writes c k) = record {
+      move = Writes c k;
+      takes = takes_none (Serves (Writes c k)) (Writes c k) (λ i d e. (let no : Writes c k ≡ Runs (Takes i
+          (OfSeat d)) = e in absurd cc));
+      same = serves c _;
+    }
     serving_goes (Ends c) = record {
       move = Ends c;
+      takes = takes_none (Serves (Ends c)) (Ends c) (λ i d e. (let no : Ends c ≡ Runs (Takes i
+          (OfSeat d)) = e in absurd cc));
       same = record { chains = a; ended = refl; connections = refl; put = put };
     }
     serving_goes (Runs m) = runs m
 
     -- a reply is collected: it was put, and one call of its seat is open at most
-    collects : (c : ℕ) (rs : List Reply) → (l.seats c).queued ≡ rs → Goes (collecting s c rs) other
-    collects c [] e = nothing
+    collects : (c : ℕ) (rs : List Reply) → (l.seats c).queued ≡ rs → Goes a.names (Collects c) (collecting s c rs) other
+    collects c [] e = nothing (Collects c)
     collects c (reply ∷ more) e = by (waits (served_at s.serving c))
       where
         none : awaits_reply (s.serving.chain.seats c) ≡ false
@@ -359,10 +502,13 @@ module _ (n : ℕ) (homes : List ℕ) (ports : Ports) where
             let all = ap (λ (rs : List Reply). length rs) e in
             le-ltb _ _ (omega (arith, most, all))
 
-        by : (b : Bool) → Goes (cond b s (record s { collected = with_at s.collected c true })) other
-        by true = nothing
+        by : (b : Bool)
+            → Goes a.names (Collects c) (cond b s (record s { collected = with_at s.collected c true })) other
+        by true = nothing (Collects c)
         by false = record {
           move = Runs (Receives 0);
+          takes = takes_none (Collects c) (Runs (Receives 0)) (λ i d e. (let no : Runs (Receives 0) ≡ Runs (Takes i
+              (OfSeat d)) = e in absurd cc));
           same = record {
             chains = a;
             ended = refl;
@@ -374,57 +520,84 @@ module _ (n : ℕ) (homes : List ℕ) (ports : Ports) where
           };
         }
 
-    goes : (m : PooledMove) → Goes (pooled_by homes ports s m) other
+    goes : (m : PooledMove) → Goes a.names m (pooled_by homes ports s m) other
     goes (Serves m) = serving_goes m
     goes (Collects c) = collects c (l.seats c).queued refl
 
   -- ---- runs
-
-  -- moves with the seats' numbers as ports, as many, that make what stands for the chain after each of these
-  pub record Behind (s : PooledServing) (u : ServingChain) (ms : List PooledMove) : Type 0 where
-    pub moves : List ServingMove
-    pub long : length moves ≡ length ms
-    pub stands : (k : ℕ) → SamePooled (pooled_from homes ports s (take k ms)) (served_from done u (take k moves))
-    pub ends : SamePooled (pooled_from homes ports s ms) (served_from done u moves)
 
   is_other : (s : PooledServing) (u : ServingChain) → SamePooled s u → record s.serving { chain = u.chain } ≡ u
   is_other s u h =
       ap (λ (e : ℕ → ℕ). record { chain = u.chain; ended = e; connections = s.serving.connections }) (sym h.ended)
       ∙ ap (λ f. record { chain = u.chain; ended = u.ended; connections = f }) (sym h.connections)
 
+  -- each move has one
+  pub goes_on : (m : PooledMove) (s : PooledServing) (u : ServingChain) (h : SamePooled s u)
+      → Goes h.chains.names m (pooled_by homes ports s m) u
+  goes_on m s u h =
+      subst (Goes h.chains.names m (pooled_by homes ports s m)) (is_other s u h) (goes s u.chain h.chains h.put m)
+
+  -- after the first k of these moves and of those; and the next one of those takes a call of a seat only if the next
+  -- one of these takes it from the port that has its name
+  pub record Stands (ms : List PooledMove) (os : List ServingMove) (k : ℕ) (s : PooledServing) (u : ServingChain) :
+      Type 0 where
+    pub same : SamePooled (pooled_from homes ports s (take k ms)) (served_from done u (take k os))
+    pub takes : (i c : ℕ)
+        → slice_get os k ≡ Some (Runs (Takes i (OfSeat c)))
+        → (i < n)
+        × ((p : ℕ) × (slice_get ms k ≡ Some (Serves (Runs (Takes i (OfSeat p))))) × (same.chains.names i p ≡ c))
+
+  -- moves with the seats' numbers as ports, as many, that make what stands for the chain after each of these
+  pub record Behind (s : PooledServing) (u : ServingChain) (ms : List PooledMove) : Type 0 where
+    pub moves : List ServingMove
+    pub long : length moves ≡ length ms
+    pub stands : (k : ℕ) → Stands ms moves k s u
+    pub ends : SamePooled (pooled_from homes ports s ms) (served_from done u moves)
+
   behind : (ms : List PooledMove) (s : PooledServing) (u : ServingChain) → SamePooled s u → Behind s u ms
   behind [] s u h = record { moves = []; long = refl; stands = none_left; ends = h }
     where
-      none_left : (k : ℕ) → SamePooled (pooled_from homes ports s (take k [])) (served_from done u (take k []))
-      none_left zero = h
-      none_left (suc k) = h
+      none_left : (k : ℕ) → Stands [] [] k s u
+      none_left zero = record {
+        same = h;
+        takes = λ i c e. (let no : None ≡ Some (Runs (Takes i
+            (OfSeat c))) = e in absurd cc);
+      }
+      none_left (suc k) =
+          record { same = h; takes = λ i c e. (let no : None ≡ Some (Runs (Takes i (OfSeat c))) = e in absurd cc) }
   behind (m ∷ ms) s u h =
-      let f : Goes (pooled_by homes ports s m) u =
-      subst (Goes (pooled_by homes ports s m)) (is_other s u h) (goes s u.chain h.chains h.put m) in
+      let f = goes_on m s u h in
       let b = behind ms (pooled_by homes ports s m) (served_by done u f.move) f.same in
       record {
         moves = f.move ∷ b.moves;
         long = ap suc b.long;
-        stands = first_then f.move b.moves b.stands;
+        stands = first_then f.move b.moves f.takes b.stands;
         ends = b.ends;
       }
     where
       first_then : (o : ServingMove) (os : List ServingMove)
-          → ((k : ℕ)
-          → SamePooled (pooled_from homes ports (pooled_by homes ports s m) (take k ms))
-          (served_from done (served_by done u o) (take k os)))
+          → ((i c : ℕ)
+          → o ≡ Runs (Takes i (OfSeat c))
+          → (i < n) × ((p : ℕ) × (m ≡ Serves (Runs (Takes i (OfSeat p)))) × (h.chains.names i p ≡ c)))
+          → ((k : ℕ) → Stands ms os k (pooled_by homes ports s m) (served_by done u o))
           → (k : ℕ)
-          → SamePooled (pooled_from homes ports s (take k (m ∷ ms))) (served_from done u (take k (o ∷ os)))
-      first_then o os stands zero = h
-      first_then o os stands (suc k) = stands k
+          → Stands (m ∷ ms) (o ∷ os) k s u
+      first_then o os taken stands zero = record {
+        same = h;
+        takes = λ i c e.
+            let t = taken i c (same_Some _ _ e) in (t.0, (t.1.0, ap (λ (q : PooledMove). Some q) t.1.1, t.1.2));
+      }
+      first_then o os taken stands (suc k) = record { same = (stands k).same; takes = (stands k).takes }
+
+  -- both are so at the start
+  pub opening_same : SamePooled (opening_pooled n homes) (opening_serving n homes)
+  opening_same = record {
+    chains = opening_alike n homes ports;
+    ended = refl;
+    connections = refl;
+    put = λ c e. absurd (let no : false ≡ true = e in cc);
+  }
 
   -- the moves of a run
   pub followed : (moves : List PooledMove) → Behind (opening_pooled n homes) (opening_serving n homes) moves
-  followed moves =
-      behind moves (opening_pooled n homes) (opening_serving n homes)
-      (record {
-        chains = opening_alike n homes ports;
-        ended = refl;
-        connections = refl;
-        put = λ c e. absurd (let no : false ≡ true = e in cc);
-      })
+  followed moves = behind moves (opening_pooled n homes) (opening_serving n homes) opening_same

@@ -111,7 +111,7 @@ for_each P s c k all one d n = elim (cases_eq d c) [
     there (inr other) = subst (P c n) (sym (at_other (s.connections c) (s.ended c) k n other)) (all c n)
 
 -- a view of the changed function is the changed view
-view_at : {X Y : Type 0} (view : X → Y) (f : ℕ → X) (i : ℕ) (x : X)
+pub view_at : {X Y : Type 0} (view : X → Y) (f : ℕ → X) (i : ℕ) (x : X)
     → (λ k. view (with_at f i x k)) ≡ with_at (λ k. view (f k)) i (view x)
 view_at {X} view f i x = fun_ext (λ k. elim (cases_eq k i) [
   | inl same ↦ rw same (ap view (at_same f i x) ∙ sym (at_same (λ k. view (f k)) i (view x)))

@@ -1,4 +1,5 @@
 use Rattle.interleavings.proofs.examples.UsedPorts.{none_sent, flush_sent, flush_written, none_got}
+use Rattle.interleavings.proofs.examples.CollectedReply.{collected_quiet}
 use Rattle.interleavings.proofs.worked.collected_port_is_used_again.Goals as goal
 
 pub returns-clause-waits : goal.returns-clause-waits
@@ -12,3 +13,6 @@ returns-clause-written c = flush_written
 
 pub returns-clause-lost : goal.returns-clause-lost
 returns-clause-lost c = none_got
+
+pub returns-clause-quiet : goal.returns-clause-quiet
+returns-clause-quiet c = collected_quiet
