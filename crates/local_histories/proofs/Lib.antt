@@ -22,3 +22,5 @@ pub mod Counting
 pub mod StepsOfTurns
 pub mod WorkedRight
 pub mod WorkedUnshown
+pub mod Checking
+pub mod WorkedPair

@@ -10,8 +10,8 @@
 //! - **What events leave** (`Objects.antt`): folds to the states that the contracts see: `WorkerState`, `LinksState`,
 //!   what a sender sent, what was put for a seat and taken there.
 //! - **Local rules** (`LocalRules.antt`, `Turns.antt`): each inbox and each queue keeps its rule, a worker's events are
-//!   turns (`IsTurn`), a look finds what stands, what comes out of a link was put on it, a notice tells of a server that
-//!   has stopped. Each is a contract of the code, or says that two tables' rules hold at one instant.
+//!   turns (`IsTurn`), a look finds what stands, what comes out of a link was put on it, a notice tells of a server
+//!   that has stopped. Each is a contract of the code, or says that two tables' rules hold at one instant.
 //! - **What stands in the model** (`Standing.antt`): `StandsForChain`, and the moves that an event is.
 //! - **One order** (`CallOrders.antt`): of the calls of the events, in time by their places.
 //!

@@ -14,8 +14,12 @@ ghost use Rattle.local_histories.specs.WrongRules.{AllFollow, FollowsWithoutBoar
 ghost use Rattle.local_histories.specs.WrongRules.{FollowsWithoutLinks, FollowsWithoutTurns};
 ghost use Rattle.local_histories.specs.WrongRules.{AreRightWithoutBoards};
 
-/// A client of the head sets a key, the tail commits the set, and a reader of the tail looks.
+/// A client of the head sets a key, the tail commits the set, and a reader of the tail looks. Each object did what its
+/// contract says.
 pub fn set_and_look_follow()
+    ensures opened { IsOpened (opened 2 head_and_tail) }
+    ensures events { AreOf (opened 2 head_and_tail) (set_events ++ look_at_tail ∷ []) }
+    ensures right { AreLocallyRight (opened 2 head_and_tail) (set_events ++ look_at_tail ∷ []) }
     ensures follow { AllFollow MayFollow (opened 2 head_and_tail) [] (set_events ++ look_at_tail ∷ []) }
     ensures moves { all_moves (opened 2 head_and_tail) (set_events ++ look_at_tail ∷ []) ≡ set_and_look_moves }
     ensures stored { reply_to (opened 2 head_and_tail) set_events (name 0 0) ≡ Some Stored }
