@@ -26,7 +26,8 @@ use Rattle.interleavings.specs.WorkedRuns.{set}
 use Rattle.interleavings.proofs.examples.AskedCalls.{set_asked, get_asked}
 use Rattle.local_histories.specs.Events.{Event, Sent, Brought, Taken, Shown, Put, Answered, HandedBack, Got, Looked}
 use Rattle.local_histories.specs.Events.{Halted, Broke}
-use Rattle.local_histories.specs.Objects.{OpenedChain, gathered, only_if, brings, all_messages_from, brought_from, takes}
+use Rattle.local_histories.specs.Objects.{OpenedChain, gathered, only_if, brings, all_messages_from, brought_from}
+use Rattle.local_histories.specs.Objects.{takes}
 use Rattle.local_histories.specs.Objects.{puts, put_by, answers, gets}
 use Rattle.local_histories.specs.LocalRules.{IsOpened, AreOf, HasInbox, HasReplies, IsAtFreeSeat, ShowsWhatStands}
 use Rattle.local_histories.specs.LocalRules.{TellsOfStopped, BringsNoCall, IsOfChain, HaveOneSender, AreLocallyRight}
