@@ -24,3 +24,4 @@ pub mod WorkedRight
 pub mod WorkedUnshown
 pub mod Checking
 pub mod WorkedPair
+pub mod WorkedTold

@@ -39,7 +39,7 @@ use Rattle.local_histories.proofs.Checking.{Follows, follows_along, mails, keeps
 use Rattle.local_histories.proofs.Inboxes.{all_messages_from-append}
 use Rattle.local_histories.proofs.OneSender.{AllOf, brought_if}
 
-abbrev s : OpenedChain
+abbrev pub s : OpenedChain
 s = opened 2 head_and_tail
 
 abbrev es : List Event
@@ -53,7 +53,7 @@ reply = stored_by 2 0 told
 
 -- ---- from lists to places
 
-all_by : (rule : Rule) (before fs : List Event)
+pub all_by : (rule : Rule) (before fs : List Event)
     → AllFollow rule s before fs
     → (n : ℕ) (e : Event)
     → slice_get fs n ≡ Some e
@@ -66,7 +66,7 @@ all_by rule before (x ∷ xs) f (suc n) e h =
     subst (λ gs. rule s gs e) (append_assoc before (x ∷ []) (take n xs))
     (all_by rule (before ++ x ∷ []) xs f.1 n e h)
 
-get_of : (P : Event → Type 0) (fs : List Event) (n : ℕ) (e : Event) → AllOf P fs → slice_get fs n ≡ Some e → P e
+pub get_of : (P : Event → Type 0) (fs : List Event) (n : ℕ) (e : Event) → AllOf P fs → slice_get fs n ≡ Some e → P e
 get_of P [] n e f h = absurd cc
 get_of P (x ∷ xs) zero e f h = subst P (same_Some x e h) f.0
 get_of P (x ∷ xs) (suc n) e f h = get_of P xs n e f.1 h
@@ -85,17 +85,17 @@ links_both j (x ∷ xs) ys = by (x.0 == j) (links_both j xs ys)
     by false f = f
 
 -- what an event puts on the link from i to j, and what it brings out of it
-abbrev goes_in : ℕ → ℕ → Event → List Peer
+abbrev pub goes_in : ℕ → ℕ → Event → List Peer
 goes_in i j e = links.messages_to j (puts i e)
 
-abbrev comes_out : ℕ → ℕ → Event → List Peer
+abbrev pub comes_out : ℕ → ℕ → Event → List Peer
 comes_out i j e = all_messages_from i (brings j e)
 
-all_in : (i j : ℕ) (fs : List Event) → gathered (goes_in i j) fs ≡ links.messages_to j (put_by i fs)
+pub all_in : (i j : ℕ) (fs : List Event) → gathered (goes_in i j) fs ≡ links.messages_to j (put_by i fs)
 all_in i j [] = refl
 all_in i j (e ∷ fs) = ap (λ ms. goes_in i j e ++ ms) (all_in i j fs) ∙ sym (links_both j (puts i e) (put_by i fs))
 
-all_out : (i j : ℕ) (fs : List Event) → gathered (comes_out i j) fs ≡ brought_from i j fs
+pub all_out : (i j : ℕ) (fs : List Event) → gathered (comes_out i j) fs ≡ brought_from i j fs
 all_out i j [] = refl
 all_out i j (e ∷ fs) = ap (λ ms. comes_out i j e ++ ms) (all_out i j fs)
     ∙ sym (all_messages_from-append i (brings j e) (gathered (brings j) fs))
@@ -414,16 +414,16 @@ right_inlets = (
 )
 
 -- calls are sent by sender 0, and messages brought by inlet 1
-abbrev IsNumbered : Event → Type 0
+abbrev pub IsNumbered : Event → Type 0
 IsNumbered (Sent i k port call) = k ≡ 0
 IsNumbered (Brought i k message) = k ≡ 1
 IsNumbered e = Unit {0}
 
-numbered : AllOf IsNumbered es
+pub numbered : AllOf IsNumbered es
 unfolding set_events
 numbered = (refl, (tt, (tt, (tt, (refl, (tt, (tt, (tt, (refl, (tt, (tt, (tt, (tt, (tt, tt))))))))))))))
 
-one_sender : (e f : Event) → IsNumbered e → IsNumbered f → HaveOneSender e f
+pub one_sender : (e f : Event) → IsNumbered e → IsNumbered f → HaveOneSender e f
 one_sender (Sent i k p x) (Sent h m q y) a b = λ u v. a ∙ sym b
 one_sender (Brought i k (Took (From c x))) (Brought h m (Took (From d y))) a b = λ u v. a ∙ sym b
 one_sender (Sent i k p x) (Brought h m y) a b = tt
