@@ -1,12 +1,9 @@
 -- A history that is right object by object but for a notice of a server that goes on: it has no order.
-use Rattle.std.proofs.Common.{◌≡◌, ℕ, zero, suc, ◌<◌, ◌≤◌, Bool, true, false, cond, List, [], ◌∷◌, ◌++◌, take, Some}
-use Rattle.std.proofs.Common.{refl, arith, ap, sym, ◌∙◌, subst, inl, inr, append_assoc, lit<, lit≤}
-use Rattle.std.specs.Prelude.{◌==◌, ◌&&◌, slice_get}
+use Rattle.std.proofs.Common.{◌≡◌, ℕ, zero, suc, ◌<◌, Bool, true, false, cond, List, [], ◌∷◌, ◌++◌, take}
+use Rattle.std.proofs.Common.{refl, arith, ap, sym, ◌∙◌, inl, inr, lit<}
+use Rattle.std.specs.Prelude.{◌==◌}
 use Rattle.std.specs.declared.result.Result.TheVariants.{Ok}
-use Rattle.std.proofs.lemmas.List.{append-nil}
-use Rattle.std.proofs.lemmas.Option.{same_Some}
 use mathlib.Core.List.{IsPrefix}
-use Rattle.versions.specs.Entries.{IsEntry}
 use Rattle.node.specs.Joining.{widened, taken_all, sent_again, forwarded, replies_to, promoted_to_head}
 use Rattle.node.specs.Joining.{promoted_to_tail, caught_up, acked_to_predecessor, asks_renewed}
 use Rattle.node.specs.Numbering.{left_open, replies, risen, appended, passed_on, take_update, entered}
@@ -14,27 +11,21 @@ use Rattle.node.specs.Servers.{most}
 use Rattle.node.specs.Steps.{trimmed}
 use Rattle.node.specs.Views.{has, union, single, is_below, adds, next_from, predecessor}
 use Rattle.node.specs.declared.messages.Input.{Input}
-use Rattle.node.specs.declared.messages.Input.TheVariants.{Call as Called, From, Gone}
-use Rattle.node.specs.declared.messages.Peer.{Peer}
-use Rattle.rail.specs.declared.inbox_messages.InboxMessage.TheVariants.{Took, Stop, End}
+use Rattle.node.specs.declared.messages.Input.TheVariants.{Call as Called, Gone}
 use Rattle.rail.specs.declared.workers.Turn.TheVariants.{Went}
 use Rattle.rail.specs.Links as links
 use Rattle.rail.specs.NotedReplies.{NotedReply}
-use Rattle.interleavings.specs.OwnPorts.{seats_at}
 use Rattle.interleavings.specs.WorkedRuns.{set}
-use Rattle.interleavings.proofs.examples.AskedCalls.{set_asked, get_asked}
-use Rattle.local_histories.specs.Events.{Event, Sent, Brought, Taken, Shown, Put, Answered, HandedBack, Got, Looked}
-use Rattle.local_histories.specs.Events.{Halted, Broke}
-use Rattle.local_histories.specs.Objects.{OpenedChain, gathered, only_if, brings, all_messages_from, brought_from}
+use Rattle.local_histories.specs.Events.{Event, Taken, Shown, Answered}
+use Rattle.local_histories.specs.Objects.{all_messages_from, brought_from}
 use Rattle.local_histories.specs.Objects.{takes}
-use Rattle.local_histories.specs.Objects.{puts, put_by, answers, gets}
+use Rattle.local_histories.specs.Objects.{put_by, answers, gets}
 use Rattle.local_histories.specs.Turns.{HasTurns, IsTurnAfter}
 use Rattle.local_histories.proofs.Checking.{Follows, follows_along, mails, keeps_inbox, keeps_queue}
-use Rattle.local_histories.proofs.Inboxes.{all_messages_from-append}
-use Rattle.local_histories.proofs.OneSender.{AllOf, brought_if}
+use Rattle.local_histories.proofs.OneSender.{AllOf}
 use Rattle.local_histories.specs.LocalRules.{HasInbox, HasReplies, IsAtFreeSeat, ShowsWhatStands}
-use Rattle.local_histories.specs.LocalRules.{BringsNoCall, IsOfChain, HaveOneSender}
-use Rattle.local_histories.specs.WorkedHistories.{opened, envelope, stored_by, told_events, look_at_first}
+use Rattle.local_histories.specs.LocalRules.{BringsNoCall, IsOfChain}
+use Rattle.local_histories.specs.WorkedHistories.{envelope, stored_by, told_events, look_at_first}
 use Rattle.local_histories.specs.WrongRules.{AllFollow, TellsOfAny, AreRightWithoutNotices}
 use Rattle.local_histories.proofs.WorkedPair.{s, all_by, get_of, IsNumbered, one_sender, goes_in, comes_out, all_in}
 use Rattle.local_histories.proofs.WorkedPair.{all_out}
@@ -54,9 +45,43 @@ none_out false i = refl
 
 along : (i j : ℕ) → Follows (goes_in i j) (comes_out i j) [] es
 unfolding told_events
-along i j =
-    ([], none_out (0 == j) i, ([], refl, ([], refl, ([], refl, ([], refl, ([], refl, ([], refl, ([], refl, ([], refl,
-    tt)))))))))
+along i j = (
+  [],
+  none_out (0 == j) i,
+  (
+    [],
+    refl,
+    (
+      [],
+      refl,
+      (
+        [],
+        refl,
+        (
+          [],
+          refl,
+          (
+            [],
+            refl,
+            (
+              [],
+              refl,
+              (
+                [],
+                refl,
+                (
+                  [],
+                  refl,
+                  tt,
+                ),
+              ),
+            ),
+          ),
+        ),
+      ),
+    ),
+  ),
+)
 
 right_links : (n i j : ℕ) → IsPrefix (brought_from i j (take n es)) (links.messages_to j (put_by i (take n es)))
 right_links n i j =
@@ -65,9 +90,27 @@ right_links n i j =
 
 mails_head : Follows (mails 0) (takes 0) [] es
 unfolding told_events
-mails_head =
-    (envelope 1 (Gone 1) ∷ [], refl, ([], refl, ([], refl, (envelope 0 (Called 0 set) ∷ [], refl, ([], refl,
-    ([], refl, ([], refl, ([], refl, ([], refl, tt)))))))))
+mails_head = (
+  envelope 1 (Gone 1) ∷ [],
+  refl,
+  (
+    [],
+    refl,
+    (
+      [],
+      refl,
+      (
+        envelope 0 (Called 0 set) ∷ [],
+        refl,
+        (
+          [],
+          refl,
+          ([], refl, ([], refl, ([], refl, ([], refl, tt)))),
+        ),
+      ),
+    ),
+  ),
+)
 
 mails_tail : Follows (mails 1) (takes 1) [] es
 unfolding told_events
@@ -89,9 +132,43 @@ right_inbox n (suc (suc i)) within = absurd (omega (arith, within))
 
 replies_head : Follows (answers 0 0) (gets 0 0) [] es
 unfolding told_events
-replies_head =
-    ([], refl, ([], refl, ([], refl, ([], refl, ([], refl, ([], refl, (reply ∷ [], refl, ([], refl, ([], refl,
-    tt)))))))))
+replies_head = (
+  [],
+  refl,
+  (
+    [],
+    refl,
+    (
+      [],
+      refl,
+      (
+        [],
+        refl,
+        (
+          [],
+          refl,
+          (
+            [],
+            refl,
+            (
+              reply ∷ [],
+              refl,
+              (
+                [],
+                refl,
+                (
+                  [],
+                  refl,
+                  tt,
+                ),
+              ),
+            ),
+          ),
+        ),
+      ),
+    ),
+  ),
+)
 
 replies_tail : Follows (answers 1 0) (gets 1 0) [] es
 unfolding told_events
@@ -151,21 +228,25 @@ first_turn = record {
   is = record {
     message = envelope 1 (Gone 1);
     taken = refl;
-    did = (Gone 1, refl, record {
-      going = refl;
-      still = refl;
-      published = refl;
-      messages = record {
-        put = [];
-        list = refl;
-        order = refl;
-        beginning = λ j. ([], refl);
-        whole = λ j up. refl;
-        down = λ j down. refl;
-      };
-      replies = (record { address = refl; more = []; put = refl; left = refl; gone = λ g. g }, refl);
-      seated = tt;
-    });
+    did = (
+      Gone 1,
+      refl,
+      record {
+        going = refl;
+        still = refl;
+        published = refl;
+        messages = record {
+          put = [];
+          list = refl;
+          order = refl;
+          beginning = λ j. ([], refl);
+          whole = λ j up. refl;
+          down = λ j down. refl;
+        };
+        replies = (record { address = refl; more = []; put = refl; left = refl; gone = λ g. g }, refl);
+        seated = tt;
+      },
+    );
   };
 }
 
@@ -180,22 +261,28 @@ second_turn = record {
   is = record {
     message = envelope 0 (Called 0 set);
     taken = refl;
-    did = (Called 0 set, refl, record {
-      going = refl;
-      still = refl;
-      published = refl;
-      messages = record {
-        put = [];
-        list = refl;
-        order = refl;
-        beginning = λ j. ([], refl);
-        whole = λ j up. refl;
-        down = λ j down. refl;
-      };
-      replies = (record { address = refl; more = reply ∷ []; put = refl; left = inr ([], refl, refl); gone = λ g. g },
-      refl);
-      seated = (lit< tt, tt);
-    });
+    did = (
+      Called 0 set,
+      refl,
+      record {
+        going = refl;
+        still = refl;
+        published = refl;
+        messages = record {
+          put = [];
+          list = refl;
+          order = refl;
+          beginning = λ j. ([], refl);
+          whole = λ j up. refl;
+          down = λ j down. refl;
+        };
+        replies = (
+          record { address = refl; more = reply ∷ []; put = refl; left = inr ([], refl, refl); gone = λ g. g },
+          refl,
+        );
+        seated = (lit< tt, tt);
+      },
+    );
   };
 }
 
