@@ -37,7 +37,7 @@ of_more k (x ∷ xs) m = by (k == x.from) (of_more k xs m)
     by true f = ap (λ ms. x.inbox_message ∷ ms) f
     by false f = f
 
-of_both : (k : ℕ) (xs ys : List Envelope) → of k (xs ++ ys) ≡ of k xs ++ of k ys
+pub of_both : (k : ℕ) (xs ys : List Envelope) → of k (xs ++ ys) ≡ of k xs ++ of k ys
 of_both k [] ys = refl
 of_both k (x ∷ xs) ys = by (k == x.from) (of_both k xs ys)
   where

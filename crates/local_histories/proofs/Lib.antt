@@ -22,3 +22,6 @@ pub mod Counting
 pub mod StepsOfTurns
 pub mod WorkedRight
 pub mod WorkedUnshown
+pub mod Checking
+pub mod WorkedPair
+pub mod WorkedTold

@@ -212,7 +212,7 @@ message_if : (b : Bool) (j a : ℕ) (peer : Peer)
 message_if true j a peer = append-nil (only_if (a == j) peer)
 message_if false j a peer = refl
 
-brought_if : (b : Bool) (j a : ℕ) (peer : Peer)
+pub brought_if : (b : Bool) (j a : ℕ) (peer : Peer)
     → all_messages_from j (cond b (inputs_in (Took (From a peer))) []) ≡ only_if (b && a == j) peer
 brought_if true j a peer = append-nil (only_if (a == j) peer)
 brought_if false j a peer = refl

@@ -299,7 +299,8 @@ module _ (stood : History) where
   right_notices = each_place (λ n e. TellsOfStopped s (take n es) e) tt tt tt tt tt tt
 
   right_inlets : (n : ℕ) (e : Event) → slice_get es n ≡ Some e → BringsNoCall e × IsOfChain s e
-  right_inlets = each_place (λ n e. BringsNoCall e × IsOfChain s e) (tt, tt) (tt, tt) (tt, tt) (tt, tt) (tt, tt) (tt, tt)
+  right_inlets =
+      each_place (λ n e. BringsNoCall e × IsOfChain s e) (tt, tt) (tt, tt) (tt, tt) (tt, tt) (tt, tt) (tt, tt)
 
   all_inboxes : (n i : ℕ) → i < 1 → HasInbox s i (take n es)
   all_inboxes n i within = subst (λ x. HasInbox s x (take n es)) (at_zero i within) (right_inbox n)

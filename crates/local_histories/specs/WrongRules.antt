@@ -8,11 +8,11 @@ use Rattle.rail.specs.declared.inbox_messages.InboxMessage.{InboxMessage}
 use Rattle.rail.specs.declared.inbox_messages.InboxMessage.TheVariants.{Took}
 use Rattle.rail.specs.Links as on_links
 use Rattle.interleavings.specs.Chains.{messages_to}
-use Rattle.local_histories.specs.Events.{Event, Taken, Put, Looked}
+use Rattle.local_histories.specs.Events.{Event, Brought, Taken, Put, Looked}
 use Rattle.local_histories.specs.Objects.{OpenedChain, shown_by, has_halted, published_by, goes_on, put_by}
 use Rattle.local_histories.specs.Objects.{brought_from}
 use Rattle.local_histories.specs.LocalRules.{HasInbox, HasReplies, IsAtFreeSeat, TellsOfStopped, BringsNoCall}
-use Rattle.local_histories.specs.LocalRules.{IsOfChain, HaveOneSender, AllBy}
+use Rattle.local_histories.specs.LocalRules.{IsOfChain, HaveOneSender, AllBy, ShowsWhatStands}
 use Rattle.local_histories.specs.Turns.{HasTurns}
 use Rattle.local_histories.specs.Standing.{given_to}
 use Rattle.local_histories.specs.Following.{GoesOnWith, IsNextMessage, MayFollow}
@@ -60,6 +60,23 @@ abbrev pub FollowsWithoutNotices : Rule
 FollowsWithoutNotices s es (Taken i envelope) =
     has_halted i es ≡ false → (given_to i es ≡ shown_by i es) × NextOrNotice s i es envelope.inbox_message
 FollowsWithoutNotices s es e = MayFollow s es e
+
+-- the same, object by object: a notice tells of a server of the chain
+abbrev pub TellsOfAny : OpenedChain → List Event → Event → Type 0
+TellsOfAny s before (Brought i k (Took (Gone j))) = j < s.count
+TellsOfAny s before e = Unit {0}
+
+-- locally right, but for the notices
+pub record AreRightWithoutNotices (s : OpenedChain) (es : List Event) : Type 0 where
+  pub inboxes : (n i : ℕ) → i < s.count → HasInbox s i (take n es)
+  pub replies : (n i p : ℕ) → i < s.count → p < s.ports i → HasReplies s i p (take n es)
+  pub links : (n i j : ℕ) → IsPrefix (brought_from i j (take n es)) (on_links.messages_to j (put_by i (take n es)))
+  pub seats : AllBy IsAtFreeSeat es
+  pub boards : AllBy (ShowsWhatStands s) es
+  pub notices : AllBy (TellsOfAny s) es
+  pub inlets : AllBy (λ before e. BringsNoCall e × IsOfChain s e) es
+  pub senders : (m n : ℕ) (e f : Event) → slice_get es m ≡ Some e → slice_get es n ≡ Some f → HaveOneSender e f
+  pub turns : (i : ℕ) → i < s.count → HasTurns s i es
 
 -- ---- Without links: a message may come that wasn't put.
 

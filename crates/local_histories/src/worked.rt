@@ -12,10 +12,14 @@ ghost use Rattle.local_histories.specs.WorkedHistories.{older_events, unshown_ev
 ghost use Rattle.local_histories.specs.WorkedHistories.{told_events, unput_events, tail_and_head, early_events};
 ghost use Rattle.local_histories.specs.WrongRules.{AllFollow, FollowsWithoutBoards, FollowsWithoutNotices};
 ghost use Rattle.local_histories.specs.WrongRules.{FollowsWithoutLinks, FollowsWithoutTurns};
-ghost use Rattle.local_histories.specs.WrongRules.{AreRightWithoutBoards};
+ghost use Rattle.local_histories.specs.WrongRules.{AreRightWithoutBoards, AreRightWithoutNotices};
 
-/// A client of the head sets a key, the tail commits the set, and a reader of the tail looks.
+/// A client of the head sets a key, the tail commits the set, and a reader of the tail looks. Each object did what its
+/// contract says.
 pub fn set_and_look_follow()
+    ensures opened { IsOpened (opened 2 head_and_tail) }
+    ensures events { AreOf (opened 2 head_and_tail) (set_events ++ look_at_tail ∷ []) }
+    ensures right { AreLocallyRight (opened 2 head_and_tail) (set_events ++ look_at_tail ∷ []) }
     ensures follow { AllFollow MayFollow (opened 2 head_and_tail) [] (set_events ++ look_at_tail ∷ []) }
     ensures moves { all_moves (opened 2 head_and_tail) (set_events ++ look_at_tail ∷ []) ≡ set_and_look_moves }
     ensures stored { reply_to (opened 2 head_and_tail) set_events (name 0 0) ≡ Some Stored }
@@ -40,6 +44,7 @@ pub fn without_boards_there_is_no_order()
 pub fn without_notices_there_is_no_order()
     ensures follow { AllFollow FollowsWithoutNotices (opened 2 head_and_tail) []
         (told_events ++ look_at_first 2 1 0 ∷ []) }
+    ensures right { AreRightWithoutNotices (opened 2 head_and_tail) (told_events ++ look_at_first 2 1 0 ∷ []) }
     ensures none { HasNoOrder (opened 2 head_and_tail) (told_events ++ look_at_first 2 1 0 ∷ []) }
 {}
 
