@@ -9,7 +9,7 @@
 //! - **Growth.** A key that comes may split one bucket: at most 48 entries move, into one new block of memory, and at
 //!   most every 512th split takes a block of 512 buckets. So no call waits while a whole table is made anew. A split
 //!   that memory refuses is left out, and the next new key tries again. So only a key's own entry can be refused. A
-//!   split leaves no bucket room for more, and a bucket grows by three slots: so a slot has 1.15 entries' room.
+//!   split leaves no bucket room for more, and a bucket grows by three slots: so little room is empty.
 //! - **Keys made to meet.** The hash is known to all, so keys of one hash can be made at will. What comes to a full
 //!   bucket goes to one ordinary tree (`rest`). Such a key costs the 48 hashes of its bucket and a search in that tree;
 //!   others cost what they did. There is no secret and nothing random: what an index does is the same on each run.

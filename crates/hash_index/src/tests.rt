@@ -1,7 +1,7 @@
 //! What no clause says: that the calls succeed with memory at hand, that buckets split on the way, and that keys of one
 //! hash are kept too.
 
-use crate::Index;
+use crate::{Index, Retain};
 use std::alloc::Global;
 use std::collections::BTreeMap;
 use std::test::Fail;
@@ -200,4 +200,43 @@ fn an_index_is_walked_and_taken_apart(rt: HostRuntime) -> Result<(), Fail> {
 #[test]
 fn an_index_with_a_full_bucket_is_walked_and_taken_apart(rt: HostRuntime) -> Result<(), Fail> {
     holds(is_walked_and_taken_apart(rt.alloc(), true))
+}
+
+// An even number stays, and is one more then.
+struct EvenAndOneMore;
+
+impl Retain<u32> for EvenAndOneMore {
+    ghost outcome = { λ v b w. Unit {0} };
+
+    fn stays(value: &mut u32) -> bool {
+        let even = *value % 2 == 0;
+        *value = value.wrapping_add(1);
+        even
+    }
+}
+
+// Whether the number's key has what became of it.
+fn became_one_more(index: &Index<u32>, key: &Key, number: u32) -> bool {
+    match index.get(key) {
+        Some(value) => number % 2 == 0 && *value == number.wrapping_add(1),
+        None => number % 2 == 1,
+    }
+}
+
+fn keeps_what_stays(alloc: Global, hostile: bool) -> Option<bool> {
+    let mut index = filled(alloc, hostile)?;
+    index.retain::<EvenAndOneMore>();
+    let mut same = index.len() == 50;
+    for number in 0..100_u32 {
+        let key = made(alloc, hostile, number)?;
+        same = became_one_more(&index, &key, number) && same;
+    }
+    Some(same)
+}
+
+#[test]
+fn an_index_keeps_what_stays(rt: HostRuntime) -> Result<(), Fail> {
+    let alloc = rt.alloc();
+    holds(keeps_what_stays(alloc, false))?;
+    holds(keeps_what_stays(alloc, true))
 }
