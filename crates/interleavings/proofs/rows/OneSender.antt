@@ -18,6 +18,7 @@ use Rattle.node.specs.declared.looks.Look.TheVariants.{Clean, Dirty}
 use Rattle.node.specs.declared.messages.Input.TheVariants.{Call as Called}
 use Rattle.node.proofs.BegunLists.{found_below}
 use Rattle.world.proofs.lists.Standing.{get_within, some_of}
+use Rattle.proto.specs.Turns.{is_store}
 use Rattle.interleavings.specs.Asked.{AreAsked}
 use Rattle.interleavings.specs.Chains.{with_at, with_seat, Seat, Chain, OfSeat, queue, calls_from, opening_chain}
 use Rattle.interleavings.specs.Moves.{Move, Sends, Takes, Publishes, Puts, Arrives, Replies, Receives, Looks, Stops}
@@ -87,7 +88,7 @@ module _ (s : ServingChain) where
 
   refuses_go : (c : ℕ) (due : Option Call) → ChainGoes s (refusing s c due) (Refuses c)
   refuses_go c None = Stays refl
-  refuses_go c (Some call) = either (Refuses c) _ _ s (Stays refl) (Stays refl)
+  refuses_go c (Some call) = either (Refuses c) (is_store call.op) _ s (Stays refl) (Stays refl)
 
   answers_go : (c : ℕ) (queued : List Reply) → ChainGoes s (answering done s c queued) (Answers c)
   answers_go c [] = Stays refl
